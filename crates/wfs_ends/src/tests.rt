@@ -1,0 +1,104 @@
+//! Each public call once, with ample memory, and the real ends against real files.
+
+use crate::{
+    Boxed, Clock, InputFile, Joined, List, ListClock, MemLink, MemSink, MemSource, ReadEnd,
+    RealClock, Sink, Source, StandardInput, StandardOutput, Text, WriteEnd, WriteFault, flush_on,
+    put_all, put_on,
+};
+use std::fs;
+use std::test::Fail;
+
+#[test]
+fn a_sink_in_memory_gives_what_fits_and_fails_where_it_is_told(
+    rt: HostRuntime,
+) -> Result<(), Fail> {
+    let alloc = rt.alloc();
+    let mut sink = MemSink::new(alloc, 5, vec![in alloc; 1]?)?;
+    assert_eq!(rt; put_all(&mut sink, b"abc"), Ok(()));
+    assert_eq!(rt; put_all(&mut sink, b"d"), Err(WriteFault));
+    assert_eq!(rt; put_all(&mut sink, b"defg"), Err(WriteFault));
+    assert_eq!(rt; sink.bytes(), b"abcde".as_slice());
+    assert!(rt; put_on(&mut sink, true, b"x"));
+    assert!(rt; !flush_on(&mut sink, false));
+    Ok(())
+}
+
+#[test]
+fn a_joined_link_moves_the_bytes_of_its_halves(rt: HostRuntime) -> Result<(), Fail> {
+    let alloc = rt.alloc();
+    let mut source = MemSource::new(vec![in alloc; b'a', b'b', b'c']?, vec![in alloc; 1]?);
+    let mut sink = MemSink::new(alloc, 10, Vec::new(alloc))?;
+    let mut into = [0u8; 2];
+    {
+        let mut joined = Joined {
+            source: &mut source,
+            sink: &mut sink,
+        };
+        assert_eq!(rt; joined.take(&mut into), Ok(2));
+        assert!(rt; joined.take(&mut into).is_err());
+        assert_eq!(rt; put_all(&mut joined, b"xy"), Ok(()));
+    }
+    assert_eq!(rt; into.as_slice(), b"ab".as_slice());
+    assert_eq!(rt; sink.bytes(), b"xy".as_slice());
+    let mut link = MemLink::new(
+        alloc,
+        vec![in alloc; b'q']?,
+        3,
+        Vec::new(alloc),
+        Vec::new(alloc),
+    )?;
+    assert_eq!(rt; link.take(&mut into), Ok(1));
+    assert_eq!(rt; put_all(&mut link, b"mno"), Ok(()));
+    assert_eq!(rt; link.written(), b"mno".as_slice());
+    Ok(())
+}
+
+#[test]
+fn texts_lists_boxes_and_clocks_copy_as_they_are(rt: HostRuntime) -> Result<(), Fail> {
+    let alloc = rt.alloc();
+    let text = Text::of(alloc, "Straße")?;
+    assert_eq!(rt; text.copy(alloc)?.as_str(), "Straße");
+    assert_eq!(rt;
+        Text::of_string(String::from_str(alloc, "Mark")?).as_str(),
+        "Mark"
+    );
+    let list = List::of(vec![in alloc; 3u8, 4]?);
+    assert_eq!(rt; list.items(), [3, 4].as_slice());
+    assert_eq!(rt; list.into_items().as_slice(), [3, 4].as_slice());
+    assert_eq!(rt; *Boxed::new(alloc, 7u8)?.item(), 7);
+    assert_eq!(rt; Boxed::new(alloc, 8u8)?.into_item(), 8);
+    let mut clock = ListClock::new(vec![in alloc; 5u64, 9]?);
+    assert_eq!(rt; clock.now(), 5);
+    let mut twin = clock.twin(alloc)?;
+    assert_eq!(rt; twin.now(), 9);
+    assert_eq!(rt; twin.now(), 9);
+    assert_eq!(rt; clock.now(), 9);
+    Ok(())
+}
+
+#[test]
+fn a_real_file_is_read_and_one_that_is_not_there_fails(rt: HostRuntime) -> Result<(), Fail> {
+    let alloc = rt.alloc();
+    fs::write(&rt, "marks.txt", "two marks")?;
+    let mut file = ReadEnd::of(InputFile::of(&rt, Text::of(alloc, "marks.txt")?));
+    let mut into = [0u8; 16];
+    assert_eq!(rt; file.take(&mut into), Ok(9));
+    assert_eq!(rt; &into[..9], b"two marks".as_slice());
+    assert_eq!(rt; file.take(&mut into), Ok(0));
+    let mut absent = ReadEnd::of(InputFile::of(&rt, Text::of(alloc, "absent.txt")?));
+    assert!(rt; absent.take(&mut into).is_err());
+    Ok(())
+}
+
+#[test]
+fn the_standard_ends_and_the_clock_of_the_machine_answer(rt: HostRuntime) -> Result<(), Fail> {
+    let mut into = [0u8; 4];
+    let mut input = ReadEnd::of(StandardInput::of(&rt));
+    assert!(rt; input.take(&mut into).is_ok());
+    let mut out = WriteEnd::of(StandardOutput::of(&rt));
+    assert_eq!(rt; put_all(&mut out, b"out\n"), Ok(()));
+    assert!(rt; out.flush().is_ok());
+    let mut clock = RealClock::of(&rt);
+    assert!(rt; clock.now() > 1_700_000_000);
+    Ok(())
+}
