@@ -1,0 +1,30 @@
+-- A serial history of the service.
+use Rattle.std.specs.Prelude.{◌≡◌, ℕ, ◌≤◌, List, [], ◌∷◌, take, ⊤}
+use Rattle.std.specs.List.{fold}
+use Rattle.wfs_machine.specs.declared.request.Entry.{Entry}
+use Rattle.wfs_machine.specs.declared.request.Request.{Request}
+use Rattle.wfs_machine.specs.declared.request.Request.TheVariants.{Transact}
+use Rattle.wfs_machine.specs.declared.reply.Reply.{Reply}
+use Rattle.wfs_machine.specs.State.{State}
+use Rattle.wfs_machine.specs.Step.{step}
+
+-- a request that may change the state
+abbrev pub IsChange : Request → Type 0
+IsChange (Transact actions) = ⊤
+
+-- the state that an entry leaves
+abbrev pub stepped : State → Entry → State
+stepped state entry = (step state entry.moment entry.request).1
+
+-- the state after the first n entries
+abbrev pub after : State → List Entry → ℕ → State
+after opening entries n = fold stepped opening (take n entries)
+
+-- each entry is a changing request, at a moment not before the last one
+abbrev pub IsLegal : State → List Entry → Type 0
+IsLegal state [] = ⊤
+IsLegal state (entry ∷ entries) = IsChange entry.request × (state.last ≤ entry.moment) × IsLegal (stepped state entry) entries
+
+-- the reply to an entry that comes after these
+abbrev pub reply_after : State → List Entry → Entry → Reply
+reply_after opening entries entry = (step (fold stepped opening entries) entry.moment entry.request).0

@@ -1,0 +1,4 @@
+pub mod Acting
+pub mod History
+pub mod State
+pub mod Step

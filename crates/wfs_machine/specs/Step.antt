@@ -1,0 +1,60 @@
+-- What a changing request answers, and the state that it leaves (OGC 09-025r2, 15).
+use Rattle.std.specs.Prelude.{◌≡◌, ℕ, ◌+◌, List, [], ◌∷◌, ◌++◌, Option, All, get_or, slice_set}
+use Rattle.std.specs.List.{fold}
+use Rattle.wfs_machine.specs.declared.feature.Feature.{Feature}
+use Rattle.wfs_machine.specs.declared.feature.Rid.{Rid}
+use Rattle.wfs_machine.specs.declared.reply.Made.{Made}
+use Rattle.wfs_machine.specs.declared.reply.Reply.{Reply}
+use Rattle.wfs_machine.specs.declared.reply.Reply.TheVariants.{Transacted}
+use Rattle.wfs_machine.specs.declared.request.Action.{Action}
+use Rattle.wfs_machine.specs.declared.request.Action.TheVariants.{Insert}
+use Rattle.wfs_machine.specs.declared.request.Request.{Request}
+use Rattle.wfs_machine.specs.declared.request.Request.TheVariants.{Transact}
+use Rattle.wfs_machine.specs.State.{State, moment_in}
+
+-- a state in the middle of a transaction, and what its inserts have made so far
+pub record Acting : Type 0 where
+  pub features : List (List Feature)
+  pub counters : List ℕ
+  pub made : List Made
+
+-- the next number of a type
+abbrev pub next_number : List ℕ → ℕ → ℕ
+next_number counters kind = get_or counters kind 0 + 1
+
+-- A feature gets the next number of its type and stands behind all others of its type.
+unfoldable pub inserted : Option (List ℕ) → Acting → Feature → Acting
+inserted handle at f =
+    let kind = f.id.kind in
+    let id : Rid = record { kind = kind; number = next_number at.counters kind } in
+    let feature : Feature = record { id = id; values = f.values } in
+    let made : Made = record { id = id; handle = handle } in
+    record {
+      features = slice_set at.features kind (get_or at.features kind [] ++ feature ∷ []);
+      counters = slice_set at.counters kind id.number;
+      made = at.made ++ made ∷ [];
+    }
+
+-- what an action leaves
+abbrev pub acted : Acting → Action → Acting
+acted at (Insert handle features) = fold (inserted handle) at features
+
+-- what a transaction's actions leave, each on what the earlier ones left
+abbrev pub acted_all : State → List Action → Acting
+acted_all state actions = fold acted (record { features = state.features; counters = state.counters; made = [] }) actions
+
+abbrev pub transacted : List Made → Reply
+transacted made = Transacted 0 made [] []
+
+-- the reply to a request at a moment that is handed in, and the state that it leaves
+unfoldable pub step : State → ℕ → Request → Reply × State
+step state moment (Transact actions) =
+    let at = acted_all state actions in
+    (transacted at.made, record state { features = at.features; counters = at.counters; last = moment_in state moment })
+
+-- each feature that comes in is of the one type there is
+abbrev pub IsActionOfTypes : Action → Type 0
+IsActionOfTypes (Insert handle features) = All (λ f. f.id.kind ≡ 0) features
+
+abbrev pub IsOfTypes : Request → Type 0
+IsOfTypes (Transact actions) = All IsActionOfTypes actions

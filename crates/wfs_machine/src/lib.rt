@@ -1,0 +1,17 @@
+//! The machine of the service: what a changing request answers and what state it leaves, stated as
+//! a step on plain lists (`specs/`), and a plain machine that takes those steps.
+#![tactic(auto)]
+
+mod acting;
+mod feature;
+mod plain;
+mod reply;
+mod request;
+
+pub use feature::{Feature, Rid, Value};
+pub use plain::Plain;
+pub use reply::{Made, Reply};
+pub use request::{Action, Entry, Request};
+
+#[cfg(test)]
+mod tests;
