@@ -1,0 +1,12 @@
+pub mod Areas
+pub mod Both
+pub mod Boxes
+pub mod Closing
+pub mod Crossing
+pub mod Enclosed
+pub mod Equal
+pub mod Least
+pub mod Meeting
+pub mod Numbers
+pub mod Parts
+pub mod Walks

@@ -1,0 +1,6 @@
+pub mod Plane
+pub mod Segments
+pub mod Rings
+pub mod Shapes
+pub mod Places
+pub mod Extents

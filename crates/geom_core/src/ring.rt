@@ -1,0 +1,132 @@
+ghost use Rattle.std.specs.Prelude.{◌≡◌, ◌<◌, ◌≤◌, length, slice_get, IfOk, IsTrue};
+ghost use Rattle.geom_core.specs.Shapes.{ring_of, is_closed};
+ghost use Rattle.geom_core.specs.Plane.{least_box};
+ghost use Rattle.geom_core.specs.Extents.{IsLeastBox};
+ghost use Rattle.geom_core.specs.Places.{place_of};
+
+use crate::extent::least_box;
+use crate::line::copy_of;
+use crate::placing::{Place, place_in};
+use crate::position::is_same;
+use crate::{Box2, GeomFault, MOST_POSITIONS, Pos};
+use std::alloc::{AllocError, Global};
+use std::marker::Model;
+
+/// A closed path of four to 10,000 positions, the last of which is the first. It may cross itself.
+#[derive(Debug, Drop)]
+pub struct Ring {
+    positions: Vec<Pos>,
+    bounds: Box2,
+}
+
+impl Model for Ring {
+    ghost use Rattle.std.specs.Prelude.{List, ◌≡◌};
+    ghost use Rattle.geom_core.specs.Plane.{Point, least_box};
+    ghost use Rattle.geom_core.specs.Shapes.{IsRing};
+
+    ghost Value = { List Point };
+
+    ghost view = { λ l. l.positions.items };
+
+    ghost invariant = { λ l. IsRing l.positions.items × (l.bounds ≡ least_box l.positions.items) };
+}
+
+impl Ring {
+    /// The ring through these positions, kept as given. `TooMany`: over 10,000; `TooFew`: fewer
+    /// than four; `NotClosed`: the last is not the first.
+    pub fn new(positions: Vec<Pos>) -> Result<Ring, GeomFault>
+        ensures { result ≡ ring_of positions.items }
+    {
+        let all = positions.as_slice();
+        if all.len() > MOST_POSITIONS {
+            return Err(GeomFault::TooMany);
+        }
+        if all.len() < 4 {
+            return Err(GeomFault::TooFew);
+        }
+        if !is_closed(all) {
+            return Err(GeomFault::NotClosed);
+        }
+        let bounds = least_box(all);
+        Ok(Ring { positions, bounds })
+    }
+
+    /// The positions, in order.
+    pub fn positions(&self) -> &[Pos]
+        ensures { result.now ≡ self.now }
+    {
+        self.positions.as_slice()
+    }
+
+    /// How many positions it has.
+    pub fn count(&self) -> usize
+        ensures value { result ≡ length self.now }
+        ensures many { result ≤ 10_000 }
+    {
+        self.positions.len()
+    }
+
+    /// Where a position lies in the ring.
+    pub fn place(&self, p: Pos) -> Place
+        ensures { result ≡ place_of p self.now }
+    {
+        place_in(p, self.positions.as_slice())
+    }
+
+    /// The first position.
+    pub fn first(&self) -> Pos
+        ensures { slice_get self.now 0 ≡ Some result }
+    {
+        self.positions[0]
+    }
+
+    /// The least box that holds the ring.
+    pub fn bounds(&self) -> Box2
+        ensures value { result ≡ least_box self.now }
+        ensures least { IsLeastBox result self.now }
+        ensures closed { IsTrue (is_closed self.now) }
+        ensures some { 0 < length self.now }
+    {
+        self.bounds
+    }
+
+    /// An equal ring. `AllocError`: there is no memory for it.
+    pub fn copy(&self, alloc: Global) -> Result<Ring, AllocError>
+        ensures { IfOk result (λ l. l ≡ self.now) }
+    {
+        Ok(Ring {
+            positions: copy_of(alloc, self.positions.as_slice())?,
+            bounds: self.bounds,
+        })
+    }
+}
+
+/// Whether the last of these positions is the first.
+fn is_closed(positions: &[Pos]) -> bool
+    requires { 0 < length positions.now }
+    ensures { result ≡ is_closed positions.now }
+{
+    is_same(positions[0], positions[positions.len() - 1])
+}
+
+impl PartialEq for Ring {
+    ghost use Rattle.std.specs.Cmp.Lexicographic.{pointwise};
+    ghost use Rattle.std.proofs.Common.{rules};
+    ghost use Rattle.std.specs.Cmp.Rules.{comparing};
+    ghost use Rattle.geom_core.specs.Shapes.{same_point};
+
+    ghost eq = { pointwise same_point };
+
+    ghost laws = { Prim.search (comparing, rules) };
+
+    fn eq(&self, other: &Ring) -> bool {
+        self.positions.as_slice() == other.positions.as_slice()
+    }
+}
+
+impl Eq for Ring {
+    ghost use Rattle.std.proofs.Common.{rules};
+    ghost use Rattle.std.specs.Cmp.Rules.{comparing};
+
+    ghost laws = { Prim.search (comparing, rules) };
+}
