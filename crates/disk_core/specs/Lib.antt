@@ -1,0 +1,5 @@
+pub mod Disk
+pub mod Story
+pub mod StoryLaws
+pub mod Memory
+pub mod Sides

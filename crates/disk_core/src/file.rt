@@ -1,0 +1,192 @@
+ghost use Rattle.std.specs.Prelude.{◌≡◌, ◌≤◌, length, IfOk, OnErr, Ok, None};
+ghost use Rattle.wfs_ends.specs.Ends.{Rose};
+
+use crate::Disk;
+use std::fs::File;
+use std::io;
+use std::io::ErrorKind;
+use std::os::unix::fs::FileExt;
+use std::path::Path;
+use std::rt::Files;
+use wfs_ends::{Failed, Text};
+
+/// A file of the system. It is opened at first use, and made where it is not there.
+///
+/// It does not tell what it holds, so nothing is proved of what a crash leaves of it. What is assumed of the system is
+/// that the model of `Disk` holds of it. Once a sync has failed, each later one fails too, since a system may then
+/// count as written what never reached the disk.
+#[derive(Drop)]
+pub struct FileDisk<R> {
+    files: R,
+    path: Text,
+    file: Option<File>,
+    is_lost: bool,
+    faults: u64,
+}
+
+// Syncs the folder of a file, so that a new file's name stays.
+fn sync_folder<R: Files<File = File>>(files: &R, path: &str) -> io::Result<()> {
+    let folder = match Path::new(path).parent() {
+        Some(parent) if !parent.as_str().is_empty() => parent.as_str(),
+        _ => ".",
+    };
+    File::open(files, folder)?.sync_all()
+}
+
+fn open_file<R: Files<File = File>>(files: &R, path: &str) -> io::Result<File> {
+    let file = File::options()
+        .read(true)
+        .write(true)
+        .create(true)
+        .open(files, path)?;
+    sync_folder(files, path)?;
+    Ok(file)
+}
+
+// Reads until the buffer is full or the file ends.
+fn read_full(file: &File, at: u64, into: &mut [u8]) -> io::Result<usize>
+    ensures { IfOk result (λ n. n ≤ length into.old) }
+{
+    let mut done = 0;
+    for _ in 0..u64::MAX {
+        if done >= into.len() {
+            break;
+        }
+        match file.read_at(&mut into[done..], at.saturating_add(done as u64)) {
+            Ok(0) => break,
+            Ok(n) => done += n,
+            Err(e) if e.kind() == ErrorKind::Interrupted => {}
+            Err(e) => return Err(e),
+        }
+    }
+    Ok(done)
+}
+
+fn read_open(file: &Option<File>, at: u64, into: &mut [u8]) -> io::Result<usize>
+    ensures { IfOk result (λ n. n ≤ length into.old) }
+{
+    match file {
+        Some(file) => read_full(file, at, into),
+        None => Err(ErrorKind::NotFound.into()),
+    }
+}
+
+impl<R: Files<File = File>> FileDisk<R> {
+    /// The file at this path. Nothing is opened yet.
+    pub fn of(files: R, path: Text) -> FileDisk<R>
+        ensures { ⟦<FileDisk<R> as Disk>⟧.faults result ≡ 0 }
+    {
+        FileDisk {
+            files,
+            path,
+            file: None,
+            is_lost: false,
+            faults: 0,
+        }
+    }
+
+    // Counts a failure.
+    fn fail(&mut self) -> Failed
+        ensures count { self.old.faults ≤ self.new.faults }
+        ensures cause { Rose self.old.faults self.new.faults }
+    {
+        self.faults = self.faults.saturating_add(1);
+        Failed
+    }
+
+    fn open(&mut self) -> Result<(), Failed>
+        ensures count { self.old.faults ≤ self.new.faults }
+        ensures cause { OnErr result (Rose self.old.faults self.new.faults) }
+    {
+        if self.file.is_none() {
+            match open_file(&self.files, self.path.as_str()) {
+                Ok(file) => self.file = Some(file),
+                Err(_) => return Err(self.fail()),
+            }
+        }
+        Ok(())
+    }
+
+    // Counts a failure of the system.
+    fn told<T: Drop>(&mut self, answer: io::Result<T>) -> Result<T, Failed>
+        ensures count { self.old.faults ≤ self.new.faults }
+        ensures cause { OnErr result (Rose self.old.faults self.new.faults) }
+        ensures value { IfOk result (λ value. answer ≡ Ok value) }
+    {
+        match answer {
+            Ok(value) => Ok(value),
+            Err(_) => Err(self.fail()),
+        }
+    }
+}
+
+impl<R: Files<File = File>> Disk for FileDisk<R> {
+    ghost use Rattle.std.specs.Prelude.{None};
+    ghost use Rattle.std.proofs.lemmas.Option.{none-some};
+
+    ghost shown = { λ d. None };
+
+    ghost images = { λ d c. ⊥ };
+
+    ghost moment = { λ d. 0 };
+
+    ghost since = { λ d t c. ⊥ };
+
+    ghost faults = { λ d. d.faults };
+
+    ghost reads = { λ d s e. absurd (none-some s e) };
+
+    ghost tells = { λ d c here. absurd here };
+
+    ghost counts = { λ d t c le here. here };
+
+    ghost only = { λ d c had. had };
+
+    fn read(&mut self, at: u64, into: &mut [u8]) -> Result<usize, Failed> {
+        self.open()?;
+        let answer = read_open(&self.file, at, into);
+        self.told(answer)
+    }
+
+    #[tactic(auto, unfolding(crate::specs::Disk::written))]
+    fn write_at(&mut self, at: u64, bytes: &[u8]) -> Result<(), Failed> {
+        self.open()?;
+        let answer = match &self.file {
+            Some(file) => file.write_all_at(bytes, at),
+            None => return Err(self.fail()),
+        };
+        self.told(answer)
+    }
+
+    #[tactic(auto, unfolding(crate::specs::Disk::cut_to))]
+    fn cut(&mut self, to: u64) -> Result<(), Failed> {
+        self.open()?;
+        let answer = match &self.file {
+            Some(file) => file.set_len(to),
+            None => return Err(self.fail()),
+        };
+        self.told(answer)
+    }
+
+    fn sync(&mut self) -> Result<(), Failed> {
+        self.open()?;
+        if self.is_lost {
+            return Err(self.fail());
+        }
+        let answer = match &self.file {
+            Some(file) => file.sync_data(),
+            None => return Err(self.fail()),
+        };
+        self.is_lost = answer.is_err();
+        self.told(answer)
+    }
+
+    fn len(&mut self) -> Result<u64, Failed> {
+        self.open()?;
+        let answer = match &self.file {
+            Some(file) => file.metadata(),
+            None => return Err(self.fail()),
+        };
+        Ok(self.told(answer)?.len())
+    }
+}
