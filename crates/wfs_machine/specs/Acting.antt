@@ -1,6 +1,6 @@
 -- What a transaction under way stands for, beside the features that it began on.
 use Rattle.std.specs.Prelude.{List, [], ◌∷◌, ◌++◌}
-use Rattle.wfs_machine.specs.declared.feature.Feature.{Feature}
+use Rattle.feature_values.specs.declared.feature.Feature.{Feature}
 use Rattle.wfs_machine.specs.declared.acting.Acting as code
 use Rattle.wfs_machine.specs.Step.{Acting}
 

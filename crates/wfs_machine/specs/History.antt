@@ -5,7 +5,7 @@ use Rattle.wfs_machine.specs.declared.request.Entry.{Entry}
 use Rattle.wfs_machine.specs.declared.request.Request.{Request}
 use Rattle.wfs_machine.specs.declared.request.Request.TheVariants.{Transact}
 use Rattle.wfs_machine.specs.declared.reply.Reply.{Reply}
-use Rattle.wfs_machine.specs.State.{State}
+use Rattle.wfs_machine.specs.State.{State, moment_in}
 use Rattle.wfs_machine.specs.Step.{step}
 
 -- a request that may change the state
@@ -24,6 +24,10 @@ after opening entries n = fold stepped opening (take n entries)
 abbrev pub IsLegal : State → List Entry → Type 0
 IsLegal state [] = ⊤
 IsLegal state (entry ∷ entries) = IsChange entry.request × (state.last ≤ entry.moment) × IsLegal (stepped state entry) entries
+
+-- an entry that comes at a state, at the moment at which it is taken up
+abbrev pub timed : State → Entry → Entry
+timed state entry = record entry { moment = moment_in state entry.moment }
 
 -- the reply to an entry that comes after these
 abbrev pub reply_after : State → List Entry → Entry → Reply

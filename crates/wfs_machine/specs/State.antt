@@ -1,6 +1,6 @@
 -- What the service knows at a moment.
 use Rattle.std.specs.Prelude.{ℕ, List, [], ◌∷◌, min, max}
-use Rattle.wfs_machine.specs.declared.feature.Feature.{Feature}
+use Rattle.feature_values.specs.declared.feature.Feature.{Feature}
 
 -- The features stand by type, in the order of the schema, and within a type by number: that is the default order.
 -- Counters say how many numbers were given, by type.

@@ -1,8 +1,8 @@
 -- What a changing request answers, and the state that it leaves (OGC 09-025r2, 15).
 use Rattle.std.specs.Prelude.{◌≡◌, ℕ, ◌+◌, List, [], ◌∷◌, ◌++◌, Option, All, get_or, slice_set}
 use Rattle.std.specs.List.{fold}
-use Rattle.wfs_machine.specs.declared.feature.Feature.{Feature}
-use Rattle.wfs_machine.specs.declared.feature.Rid.{Rid}
+use Rattle.feature_values.specs.declared.feature.Feature.{Feature}
+use Rattle.feature_values.specs.declared.feature.Rid.{Rid}
 use Rattle.wfs_machine.specs.declared.reply.Made.{Made}
 use Rattle.wfs_machine.specs.declared.reply.Reply.{Reply}
 use Rattle.wfs_machine.specs.declared.reply.Reply.TheVariants.{Transacted}

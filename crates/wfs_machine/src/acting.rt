@@ -1,6 +1,7 @@
 ghost use Rattle.std.specs.Prelude.{◌≡◌, ◌+◌, IfOk, OnOk, List, All};
 
-use crate::{Action, Feature, Made, Rid};
+use crate::{Action, Made};
+use feature_values::{Feature, Rid};
 use std::alloc::Global;
 use wfs_ends::{List, Mem, OutOfMemory, Text};
 
@@ -16,7 +17,7 @@ pub struct Acting {
 }
 
 impl Acting {
-    ghost use Rattle.wfs_machine.specs.declared.feature.Feature.{Feature};
+    ghost use Rattle.feature_values.specs.declared.feature.Feature.{Feature};
     ghost use Rattle.wfs_machine.specs.Acting.{meaning};
     ghost use Rattle.wfs_machine.specs.Step.{inserted, acted, IsActionOfTypes};
 
@@ -40,7 +41,7 @@ impl Acting {
     {
         let number = next_number(self.counter)?;
         let id = Rid { kind: 0, number };
-        self.fresh.push(feature.copy_as(id, alloc)?)?;
+        self.fresh.push(copy_as(feature, id, alloc)?)?;
         self.made.push(Made {
             id,
             handle: copy_handle(handle, alloc)?,
@@ -48,6 +49,14 @@ impl Acting {
         self.counter = number;
         Ok(())
     }
+}
+
+// A feature's values under this id.
+fn copy_as(feature: &Feature, id: Rid, alloc: Global) -> Mem<Feature>
+    ensures { IfOk result (λ f. f ≡ record { id = id; values = feature.now.values }) }
+{
+    let Feature { values, .. } = feature.copy(alloc)?;
+    Ok(Feature { id, values })
 }
 
 // The number after the last one. One past the last u64 is answered as a want of memory, since no

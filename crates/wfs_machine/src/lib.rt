@@ -3,12 +3,10 @@
 #![tactic(auto)]
 
 mod acting;
-mod feature;
 mod plain;
 mod reply;
 mod request;
 
-pub use feature::{Feature, Rid, Value};
 pub use plain::Plain;
 pub use reply::{Made, Reply};
 pub use request::{Action, Entry, Request};

@@ -1,7 +1,8 @@
 ghost use Rattle.std.specs.Prelude.{◌≡◌, IfOk, OnErr};
 
 use crate::acting::Acting;
-use crate::{Entry, Feature, Reply, Request};
+use crate::{Entry, Reply, Request};
+use feature_values::Feature;
 use std::alloc::Global;
 use std::marker::Model;
 use wfs_ends::{List, Mem};
@@ -44,11 +45,12 @@ impl Plain {
         })
     }
 
-    /// The last moment, in whole seconds since 1970.
-    pub fn last_moment(&self) -> u64
-        ensures { result ≡ self.now.last }
+    /// The moment at which an entry is taken up that comes at this moment: never before the last
+    /// one, and 200,000,000,000 at the most.
+    pub fn moment_of(&self, moment: u64) -> u64
+        ensures { result ≡ moment_in self.now moment }
     {
-        self.last
+        moment.min(LAST_MOMENT).max(self.last)
     }
 
     #[tactic(auto, unfolding(crate::specs::Step::step))]
@@ -75,7 +77,7 @@ impl Plain {
         } = acting;
         self.features.append(&mut fresh)?;
         self.counter = counter;
-        self.last = entry.moment.min(LAST_MOMENT).max(self.last);
+        self.last = self.moment_of(entry.moment);
         Ok(Reply::Transacted {
             deleted: 0,
             inserted: List::of(made),

@@ -1,4 +1,4 @@
-use crate::Rid;
+use feature_values::Rid;
 use wfs_ends::{List, Text};
 
 /// A feature that an action made or changed, with the action's handle.

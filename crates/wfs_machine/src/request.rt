@@ -1,6 +1,6 @@
 ghost use Rattle.std.specs.Prelude.{◌↔◌, IsTrue};
 
-use crate::Feature;
+use feature_values::Feature;
 use wfs_ends::{List, Text};
 
 /// An action of a transaction (OGC 09-025r2, 15.2).

@@ -2,7 +2,8 @@
 ghost use Rattle.std.specs.Prelude.{◌≡◌, IfOk};
 ghost use Rattle.wfs_machine.specs.Step.{IsOfTypes};
 
-use crate::{Action, Entry, Feature, Made, Plain, Reply, Request, Rid, Value};
+use crate::{Action, Entry, Made, Plain, Reply, Request};
+use feature_values::{Feature, Rid, Value};
 use std::alloc::Global;
 use std::test::Fail;
 use wfs_ends::{List, Mem, Text};
@@ -66,30 +67,16 @@ fn inserts_are_numbered_from_one_at_moments_that_never_go_back(
     let entry = insert(alloc, "A", 1000)?;
     assert!(rt; entry.request.is_change());
     assert_eq!(rt; machine.step(&entry)?, inserted(alloc, 1)?);
-    assert_eq!(rt; machine.last_moment(), 1000);
+    assert_eq!(rt; machine.moment_of(0), 1000);
     assert_eq!(rt;
         machine.step(&insert(alloc, "B", 900)?)?,
         inserted(alloc, 2)?
     );
-    assert_eq!(rt; machine.last_moment(), 1000);
+    assert_eq!(rt; machine.moment_of(0), 1000);
     assert_eq!(rt;
         machine.step(&insert(alloc, "C", 200_000_000_001)?)?,
         inserted(alloc, 3)?
     );
-    assert_eq!(rt; machine.last_moment(), 200_000_000_000);
-    Ok(())
-}
-
-#[test]
-fn copies_are_equal(rt: HostRuntime) -> Result<(), Fail> {
-    let alloc = rt.alloc();
-    let feature = mark(alloc, "Straße")?;
-    assert_eq!(rt; feature.copy(alloc)?, feature);
-    let id = Rid { kind: 0, number: 7 };
-    let copy = feature.copy_as(id, alloc)?;
-    assert_eq!(rt; copy.id, id);
-    assert_eq!(rt; copy.values, feature.values);
-    let words = Value::Words(Text::of(alloc, "A")?);
-    assert_eq!(rt; words.copy(alloc)?, words);
+    assert_eq!(rt; machine.moment_of(0), 200_000_000_000);
     Ok(())
 }

@@ -1,6 +1,6 @@
 use Rattle.std.proofs.Common.{◌≡◌, List, take}
 use Rattle.std.specs.List.{fold}
-use Rattle.wfs_machine.specs.declared.feature.Feature.{Feature}
+use Rattle.feature_values.specs.declared.feature.Feature.{Feature}
 use Rattle.wfs_machine.specs.Acting.{meaning}
 use Rattle.wfs_machine.specs.Step.{acted}
 use Rattle.wfs_machine.proofs.plain.Plain.step.Given as goal

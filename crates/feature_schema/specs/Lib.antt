@@ -1,0 +1,4 @@
+pub mod File
+pub mod Signature
+pub mod Tables
+pub mod Texts

@@ -1,0 +1,4 @@
+pub mod Dots
+pub mod Each
+pub mod Numerals
+pub mod Spaces

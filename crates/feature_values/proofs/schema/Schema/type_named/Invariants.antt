@@ -1,0 +1,7 @@
+use Rattle.std.proofs.Common.{◌≡◌, drop}
+use Rattle.std.specs.List.{position_from}
+use Rattle.std.specs.Str.{bytes_eq}
+use Rattle.feature_values.proofs.schema.Schema.type_named.Given as goal
+
+abbrev pub invariant-loop-i : goal.invariant-loop-i
+invariant-loop-i l = position_from (λ x. bytes_eq x.name l.name) l.i (drop l.i l.types) ≡ position_from (λ x. bytes_eq x.name l.name) 0 l.types

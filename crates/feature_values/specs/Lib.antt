@@ -1,0 +1,4 @@
+pub mod Fits
+pub mod Ids
+pub mod Order
+pub mod Reads
