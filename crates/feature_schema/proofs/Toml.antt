@@ -1,5 +1,5 @@
 -- What the bytes of a file mean, and the values of an array.
-use Rattle.std.proofs.Common.{◌≡◌, ℕ, true, false, List, [], ◌∷◌, length, map, Ok, Err, Option, Some, None, IsUtf8, Bor, String, Global, string_bytes, option_map, find, not, Bool, refl, sym, ap, ◌∙◌, inl, inr}
+use Rattle.std.proofs.Common.{◌≡◌, ℕ, List, [], ◌∷◌, length, map, Ok, Err, Option, Some, None, IsUtf8, Bor, String, Global, string_bytes, option_map, find, not, Bool, refl, sym, ap, ◌∙◌, inl, inr}
 use Rattle.std.proofs.lemmas.Bool.{cases_Bool}
 use Rattle.std.proofs.lemmas.List.{length-map}
 use Rattle.std.proofs.lemmas.Str.{is_utf8-from_IsUtf8, IsUtf8-from_is_utf8}

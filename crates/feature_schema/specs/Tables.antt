@@ -1,11 +1,11 @@
 -- What stands at a key of a table, and the faults of keys. A text is seen as the TOML table that it means, whose keys
 -- ascend by their bytes, whatever their order in the text.
-use Rattle.std.specs.Prelude.{ℕ, Bool, true, false, not, ◌&&◌, if◌then◌else◌, nat_lt, nat_le, List, [], ◌∷◌, length, find, Option, Some, None, is_some, option_and_then, Result, Ok, Err, codes}
+use Rattle.std.specs.Prelude.{ℕ, Bool, not, ◌&&◌, if◌then◌else◌, nat_lt, nat_le, List, [], ◌∷◌, length, find, Option, Some, None, is_some, option_and_then, Result, Ok, Err, codes}
 use Rattle.std.specs.List.{list_all, list_any}
 use Rattle.std.specs.Str.{bytes_eq, is_utf8}
-use Rattle.toml.specs.Data.{Data, Items, no_items, item, Members, no_members, member, get_member, as_str, as_array, as_table, as_bool}
+use Rattle.toml.specs.Data.{Data, Items, no_items, item, Members, no_members, member, get_member, as_str, as_array, as_table}
 use Rattle.toml.specs.Parse.{parse_document}
-use Rattle.wfs_ends.specs.Read.{◌>>=◌, each}
+use Rattle.wfs_ends.specs.Read.{◌>>=◌}
 use Rattle.feature_schema.specs.Texts.{is_line, is_name, is_prefix}
 use Rattle.feature_schema.specs.declared.fault.SchemaFault.{SchemaFault}
 use Rattle.feature_schema.specs.declared.fault.SchemaFault.TheVariants.{NotToml, Key, TooMany}
