@@ -1,0 +1,16 @@
+pub mod Fronts
+pub mod Words
+pub mod Text
+pub mod Numbers
+pub mod Tags
+pub mod Scopes
+pub mod Repeats
+pub mod Levels
+pub mod Untils
+pub mod Marks
+pub mod Again
+pub mod Complete
+pub mod Takes
+pub mod Sound
+pub mod Settings
+pub mod Documents

@@ -1,0 +1,8 @@
+use Rattle.std.proofs.lemmas.Result.{err_from_is_err_and}
+use Rattle.doc_read.proofs.Levels.{until_fails}
+use Rattle.doc_read.proofs.value.inside_value.Goals as goal
+
+pub returns-in_err-is_end : goal.returns-in_err-is_end
+returns-in_err-is_end c =
+    let p = err_from_is_err_and c.from_residual.result c.from_residual.ensures.1 in
+    rw (p.1, p.2) (until_fails _ _ _ _ _ _ c.loop-test.true c.in_err-is_end.ensures c.loop.invariant)

@@ -1,0 +1,9 @@
+pub mod Read
+pub mod Chars
+pub mod Lex
+pub mod Scope
+pub mod Levels
+pub mod Declaration
+pub mod Element
+pub mod Document
+pub mod Grammar

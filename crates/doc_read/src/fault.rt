@@ -1,0 +1,51 @@
+//! Why a document could not be read.
+
+ghost use Rattle.std.specs.Prelude.{◌≡◌};
+ghost use Rattle.doc_read.specs.declared.fault.DocFault.TheVariants.{OutOfMemory};
+
+use std::alloc::{AllocError, AllocFailed};
+
+/// Why bytes spell no tree: the first fault in document order. An item that breaks several rules has the first of
+/// `Doctype`, `Malformed`, `Prefix`, `TooDeep`, `TooMany`.
+#[derive(Clone, Copy, Debug, PartialEq, Eq)]
+pub enum DocFault {
+    /// The bytes are no UTF-8, or hold a character that XML 1.0 (2.2) does not allow. This is judged first, over the
+    /// whole document.
+    NotText,
+    /// An item does not have its form, or the document ends too early.
+    Malformed,
+    /// A name has a prefix that no declaration in scope declares (Namespaces in XML 1.0, 5).
+    Prefix,
+    /// A document type declaration, which this project does not read (XML 1.0, 2.8).
+    Doctype,
+    /// An element stands in more than 31 others.
+    TooDeep,
+    /// The 100,001st element, or the 65th attribute of an element.
+    TooMany,
+    /// Memory ran out.
+    OutOfMemory,
+}
+
+impl From<AllocError> for DocFault {
+    ghost from_gives = { λ _ e. e ≡ OutOfMemory };
+
+    fn from(_e: AllocError) -> DocFault {
+        DocFault::OutOfMemory
+    }
+}
+
+impl<T: Drop> From<AllocFailed<T>> for DocFault {
+    ghost from_gives = { λ _ e. e ≡ OutOfMemory };
+
+    fn from(_e: AllocFailed<T>) -> DocFault {
+        DocFault::OutOfMemory
+    }
+}
+
+impl From<wfs_ends::OutOfMemory> for DocFault {
+    ghost from_gives = { λ _ e. e ≡ OutOfMemory };
+
+    fn from(_e: wfs_ends::OutOfMemory) -> DocFault {
+        DocFault::OutOfMemory
+    }
+}

@@ -1,0 +1,24 @@
+//! Documents read into trees.
+#![tactic(auto)]
+
+mod declaration;
+mod document;
+mod fault;
+mod head;
+mod inside;
+mod level;
+mod lex;
+mod names;
+mod reference;
+mod scope;
+mod tag;
+mod tree;
+mod twins;
+mod value;
+mod word;
+
+pub use document::{one_tree, read_document};
+pub use fault::DocFault;
+
+#[cfg(test)]
+mod tests;

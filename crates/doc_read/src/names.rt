@@ -1,0 +1,144 @@
+//! What names mean in a scope.
+
+ghost use Rattle.std.specs.Prelude.{◌≡◌, ◌++◌, None, map, IfOk, OnOk, encode_utf8_all};
+ghost use Rattle.std.specs.Option.{option_copied};
+ghost use Rattle.doc_read.specs.Read.{Gives};
+ghost use Rattle.doc_read.specs.Lex.{raw_of, spelled};
+ghost use Rattle.doc_read.specs.Scope.{newest, space_of, element_name, attribute_of, attributes_in, is_unknown, has_unknown};
+ghost use Rattle.doc_read.specs.Levels.{bounds_of};
+
+use crate::fault::DocFault;
+use crate::level::Level;
+use crate::lex::Spelled;
+use crate::scope::{is_declaration, text_of};
+use crate::tag::RawAttribute;
+use doc_tree::{Attribute, QName};
+use std::alloc::Global;
+use wfs_ends::{Mem, Text};
+
+#[tactic(auto, using(crate::proofs::Scopes::newest_found, crate::proofs::Scopes::newest_none))]
+fn newer<'s>(found: Option<&'s Text>, level: &'s Level, prefix: &str) -> Option<&'s Text>
+    ensures { option_copied result ≡ newest prefix.now (option_copied found.entry) level.now.bounds.items }
+{
+    match level.space_of(prefix) {
+        Some(space) => Some(space),
+        None => found,
+    }
+}
+
+/// The space of the newest declaration of the prefix, by a look-up a level.
+#[tactic(auto, using(crate::proofs::Scopes::newest_turn, crate::proofs::Scopes::newest_end))]
+fn newest<'s>(scope: &'s [Level], prefix: &str) -> Option<&'s Text>
+    ensures { option_copied result ≡ newest prefix.now None (bounds_of scope.now) }
+{
+    let mut found = None;
+    for level in scope {
+        found = newer(found, level, prefix);
+    }
+    found
+}
+
+fn space_of<'s>(alloc: Global, scope: &'s [Level], prefix: &[char]) -> Mem<Option<&'s Text>>
+    ensures { IfOk result (λ space. option_copied space ≡ space_of (bounds_of scope.now) prefix.now) }
+{
+    let prefix = text_of(alloc, prefix)?;
+    Ok(newest(scope, prefix.as_str()))
+}
+
+fn qname(alloc: Global, space: Text, local: &[char]) -> Mem<QName>
+    ensures { IfOk result (λ n. n ≡ record { space = space; local = encode_utf8_all local.now }) }
+{
+    Ok(QName {
+        space,
+        local: text_of(alloc, local)?,
+    })
+}
+
+/// The default space applies to elements only, and needs no declaration.
+#[tactic(auto, unfolding(crate::specs::Scope::element_name))]
+pub fn element_name(alloc: Global, scope: &[Level], s: &Spelled<'_>) -> Result<QName, DocFault>
+    ensures { Gives result (element_name (bounds_of scope.now) (spelled s.now)) }
+{
+    match space_of(alloc, scope, s.prefix)? {
+        Some(space) => Ok(qname(alloc, space.copy(alloc)?, s.local)?),
+        None => {
+            if s.prefix.is_empty() {
+                Ok(qname(alloc, Text::of(alloc, "")?, s.local)?)
+            } else {
+                Err(DocFault::Prefix)
+            }
+        }
+    }
+}
+
+fn attribute(alloc: Global, space: Text, raw: &RawAttribute<'_>) -> Mem<Attribute>
+    ensures { IfOk result (λ a. a ≡ record { name = record { space = space; local = encode_utf8_all raw.now.name.local.now }; value = raw.now.value }) }
+{
+    Ok(Attribute {
+        name: qname(alloc, space, raw.name.local)?,
+        value: raw.value.copy(alloc)?,
+    })
+}
+
+#[tactic(auto, unfolding(crate::specs::Scope::attribute_of))]
+fn add_attribute(
+    alloc: Global,
+    scope: &[Level],
+    found: &mut Vec<Attribute>,
+    raw: &RawAttribute<'_>,
+) -> Mem<()>
+    ensures { OnOk result (found.new.items ≡ found.old.items ++ attribute_of (bounds_of scope.now) (raw_of raw.now)) }
+{
+    if is_declaration(&raw.name) {
+        return Ok(());
+    }
+    if raw.name.prefix.is_empty() {
+        found.push(attribute(alloc, Text::of(alloc, "")?, raw)?)?;
+        return Ok(());
+    }
+    match space_of(alloc, scope, raw.name.prefix)? {
+        Some(space) => {
+            found.push(attribute(alloc, space.copy(alloc)?, raw)?)?;
+            Ok(())
+        }
+        None => Ok(()),
+    }
+}
+
+/// The attributes of a tag whose prefixes are declared.
+#[tactic(auto, using(crate::proofs::Scopes::attributes_turn, crate::proofs::Scopes::attributes_end, std::proofs::Common::append_assoc))]
+pub fn attributes_in(
+    alloc: Global,
+    scope: &[Level],
+    raws: &[RawAttribute<'_>],
+) -> Mem<Vec<Attribute>>
+    ensures { IfOk result (λ v. v.items ≡ attributes_in (bounds_of scope.now) (map raw_of raws.now)) }
+{
+    let mut found = Vec::new(alloc);
+    for raw in raws {
+        add_attribute(alloc, scope, &mut found, raw)?;
+    }
+    Ok(found)
+}
+
+fn is_unknown(alloc: Global, scope: &[Level], raw: &RawAttribute<'_>) -> Mem<bool>
+    ensures { IfOk result (λ b. b ≡ is_unknown (bounds_of scope.now) (raw_of raw.now)) }
+{
+    if is_declaration(&raw.name) || raw.name.prefix.is_empty() {
+        return Ok(false);
+    }
+    Ok(space_of(alloc, scope, raw.name.prefix)?.is_none())
+}
+
+/// Whether an attribute has a prefix that is not declared.
+#[tactic(auto, using(crate::proofs::Scopes::unknown_turn, crate::proofs::Scopes::unknown_end))]
+pub fn has_unknown(alloc: Global, scope: &[Level], raws: &[RawAttribute<'_>]) -> Mem<bool>
+    ensures { IfOk result (λ b. b ≡ has_unknown (bounds_of scope.now) (map raw_of raws.now)) }
+{
+    for raw in raws {
+        if is_unknown(alloc, scope, raw)? {
+            return Ok(true);
+        }
+    }
+    Ok(false)
+}

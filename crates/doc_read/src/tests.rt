@@ -1,0 +1,333 @@
+use super::*;
+use doc_tree::{Element, QName};
+use std::alloc::Global;
+use std::test::*;
+
+/// Names as `{space}local`, attributes as `[name=value]`, children as `(..)`, text as `"text"`.
+fn put_name(found: &mut String, name: &QName) -> Result<(), Fail> {
+    if !name.space.as_str().is_empty() {
+        found.push_str("{")?;
+        found.push_str(name.space.as_str())?;
+        found.push_str("}")?;
+    }
+    found.push_str(name.local.as_str())?;
+    Ok(())
+}
+
+fn put_tree(found: &mut String, element: &Element) -> Result<(), Fail> {
+    put_name(found, &element.name)?;
+    for attribute in element.attributes.items() {
+        found.push_str("[")?;
+        put_name(found, &attribute.name)?;
+        found.push_str("=")?;
+        found.push_str(attribute.value.as_str())?;
+        found.push_str("]")?;
+    }
+    if !element.children.items().is_empty() {
+        found.push_str("(")?;
+        for child in element.children.items() {
+            put_tree(found, child)?;
+        }
+        found.push_str(")")?;
+    }
+    if !element.text.as_str().is_empty() {
+        found.push_str("\"")?;
+        found.push_str(element.text.as_str())?;
+        found.push_str("\"")?;
+    }
+    Ok(())
+}
+
+fn name_of(fault: DocFault) -> &'static str {
+    match fault {
+        DocFault::NotText => "NotText",
+        DocFault::Malformed => "Malformed",
+        DocFault::Prefix => "Prefix",
+        DocFault::Doctype => "Doctype",
+        DocFault::TooDeep => "TooDeep",
+        DocFault::TooMany => "TooMany",
+        DocFault::OutOfMemory => "OutOfMemory",
+    }
+}
+
+fn reading(alloc: Global, bytes: &[u8]) -> Result<String, Fail> {
+    let mut found = String::new(alloc);
+    match read_document(alloc, bytes) {
+        Ok(root) => put_tree(&mut found, &root)?,
+        Err(fault) => found.push_str(name_of(fault))?,
+    }
+    Ok(found)
+}
+
+/// Documents, and the tree or the fault that the rules give.
+const DOCUMENTS: &[(&str, &str)] = &[
+    // The byte order mark and the declaration.
+    ("\u{feff}<a/>", "a"),
+    ("\u{feff}<?xml version='1.0'?><a/>", "a"),
+    ("\u{feff}\u{feff}<a/>", "Malformed"),
+    ("<?xml version=\"1.0\"?><a/>", "a"),
+    ("<?xml version = '1.0' encoding = \"utf-8\"?><a/>", "a"),
+    (
+        "<?xml\r\nversion='1.0'\tencoding='UTF-8' standalone='yes' ?>\n<a/>",
+        "a",
+    ),
+    ("<?xml version='1.0' standalone=\"no\"?><a/>", "a"),
+    ("<?xml version='1.1'?><a/>", "Malformed"),
+    ("<?xml version='1.0' encoding='latin1'?><a/>", "Malformed"),
+    ("<?xml version='1.0' standalone='maybe'?><a/>", "Malformed"),
+    (
+        "<?xml version='1.0' standalone='no' encoding='UTF-8'?><a/>",
+        "Malformed",
+    ),
+    ("<?xml encoding='UTF-8'?><a/>", "Malformed"),
+    ("<?xml version='1.0'encoding='UTF-8'?><a/>", "Malformed"),
+    ("<?xml version='1.&#48;'?><a/>", "Malformed"),
+    ("<?xml version='1.0\"?><a/>", "Malformed"),
+    ("<?xml version='1.0'><a/>", "Malformed"),
+    (" <?xml version='1.0'?><a/>", "Malformed"),
+    // What stands round the root.
+    ("", "Malformed"),
+    (" \t\n", "Malformed"),
+    ("<!-- a --> \n<a/>\n<!-- b --><!----> ", "a"),
+    ("x<a/>", "Malformed"),
+    ("<a/>x", "Malformed"),
+    ("<a/><b/>", "Malformed"),
+    ("<a/>&#32;", "Malformed"),
+    ("<![CDATA[ ]]><a/>", "Malformed"),
+    ("<!DOCTYPE a><a/>", "Doctype"),
+    ("<a/><!DOCTYPE a>", "Doctype"),
+    ("<a><!DOCTYPE a></a>", "Doctype"),
+    ("<!doctype a><a/>", "Malformed"),
+    ("<!ELEMENT a><a/>", "Malformed"),
+    ("<?style a?><a/>", "Malformed"),
+    ("<a><?style a?></a>", "Malformed"),
+    ("<a/><!-- b ", "Malformed"),
+    // Comments.
+    ("<a>x<!-- <b> & ]]> -->y</a>", "a\"xy\""),
+    ("<a><!--a---></a>", "a"),
+    ("<a><!-- a -- b --></a>", "Malformed"),
+    ("<a><!--a----></a>", "Malformed"),
+    ("<a><!-></a>", "Malformed"),
+    ("<a><!---></a>", "Malformed"),
+    // Names and tags.
+    ("<_a.b-c9/>", "_a.b-c9"),
+    ("<a />", "a"),
+    ("<a></a>", "a"),
+    ("<a\n></a\t>", "a"),
+    ("< a/>", "Malformed"),
+    ("<9a/>", "Malformed"),
+    ("<-a/>", "Malformed"),
+    ("<\u{e9}/>", "Malformed"),
+    ("<a\u{e9}/>", "Malformed"),
+    ("<a:/>", "Malformed"),
+    ("<:a/>", "Malformed"),
+    ("<a:b:c xmlns:a='u'/>", "Malformed"),
+    ("<a", "Malformed"),
+    ("<a/", "Malformed"),
+    ("<a/ >", "Malformed"),
+    ("<a>", "Malformed"),
+    ("<a></b>", "Malformed"),
+    ("<a></A>", "Malformed"),
+    ("<a></ a>", "Malformed"),
+    ("<a></a", "Malformed"),
+    ("<a><b></a></b>", "Malformed"),
+    ("<p:a xmlns:p='u' xmlns:q='u'></q:a>", "Malformed"),
+    ("<p:a xmlns:p='u'></p:a >", "{u}a"),
+    // Attributes.
+    ("<a b='1' c = \"2\"\n\td='3'/>", "a[b=1][c=2][d=3]"),
+    ("<a b='x\ty\nz\r\nw'/>", "a[b=x y z w]"),
+    ("<a b='&#9;&#10;&#13;&#32;'/>", "a[b=\t\n\r ]"),
+    ("<a b='&lt;&gt;&amp;&quot;&apos;'/>", "a[b=<>&\"']"),
+    ("<a b='\"' c=\"'\" d='>]]>'/>", "a[b=\"][c='][d=>]]>]"),
+    ("<a b=''/>", "a[b=]"),
+    ("<a b='<'/>", "Malformed"),
+    ("<a b='&'/>", "Malformed"),
+    ("<a b='&none;'/>", "Malformed"),
+    ("<a b=c/>", "Malformed"),
+    ("<a b/>", "Malformed"),
+    ("<a b='1'c='2'/>", "Malformed"),
+    ("<a b='1\"/>", "Malformed"),
+    ("<a b='1' b='2'/>", "Malformed"),
+    ("<a b='1' B='2'/>", "a[b=1][B=2]"),
+    ("<a xmlns:p='u' xmlns:q='u' p:b='1' q:b='2'/>", "Malformed"),
+    (
+        "<a xmlns:p='u' xmlns:q='v' p:b='1' q:b='2' b='3'/>",
+        "a[{u}b=1][{v}b=2][b=3]",
+    ),
+    // Text.
+    (
+        "<a> x &#xe9;&#233;&#x1F600; </a>",
+        "a\" x \u{e9}\u{e9}\u{1f600} \"",
+    ),
+    ("<a>&lt;&gt;&amp;&quot;&apos;</a>", "a\"<>&\"'\""),
+    ("<a>\r\n\r\r\n\n</a>", "a\"\n\n\n\n\""),
+    ("<a>&#13;&#10;</a>", "a\"\r\n\""),
+    ("<a>&#0;</a>", "Malformed"),
+    ("<a>&#xFFFE;</a>", "Malformed"),
+    ("<a>&#xD800;</a>", "Malformed"),
+    ("<a>&#x110000;</a>", "Malformed"),
+    ("<a>&#x10FFFF;&#000065;</a>", "a\"\u{10ffff}A\""),
+    ("<a>&#99999999999999999999;</a>", "Malformed"),
+    ("<a>&#;</a>", "Malformed"),
+    ("<a>&#x;</a>", "Malformed"),
+    ("<a>&#X41;</a>", "Malformed"),
+    ("<a>&#4A;</a>", "Malformed"),
+    ("<a>&lt</a>", "Malformed"),
+    ("<a>& </a>", "Malformed"),
+    ("<a>x]]>y</a>", "Malformed"),
+    ("<a>]]&gt;]><![CDATA[]]]]>]]</a>", "a\"]]>]>]]]]\""),
+    ("<a>]<!-- -->]></a>", "a\"]]>\""),
+    ("<a>x<![CDATA[<b>&amp;]]]>y</a>", "a\"x<b>&amp;]y\""),
+    ("<a><![CDATA[x]] ></a>", "Malformed"),
+    ("<a><![cdata[x]]></a>", "Malformed"),
+    // Children and text.
+    ("<a> <b>1</b>\n\t<c/> </a>", "a(b\"1\"c)"),
+    ("<a>&#32;<b/><![CDATA[ ]]></a>", "a(b)"),
+    ("<a>x<b/></a>", "Malformed"),
+    ("<a><b/><![CDATA[x]]></a>", "Malformed"),
+    ("<a><b/>&#13;</a>", "Malformed"),
+    ("<a><b>x</b><b>y<c/></b></a>", "Malformed"),
+    // Name spaces.
+    ("<a xmlns='u'><b c='1'/></a>", "{u}a({u}b[c=1])"),
+    ("<a xmlns='u'><b xmlns=''/><c/></a>", "{u}a(b{u}c)"),
+    ("<a><b xmlns='u'/><c/></a>", "a({u}bc)"),
+    (
+        "<p:a xmlns:p='u'><p:b xmlns:p='v'/><p:c/></p:a>",
+        "{u}a({v}b{u}c)",
+    ),
+    ("<a><p:b xmlns:p='u'/><p:c/></a>", "Prefix"),
+    ("<a p:b='1' xmlns:p='u'/>", "a[{u}b=1]"),
+    (
+        "<a xml:lang='en'/>",
+        "a[{http://www.w3.org/XML/1998/namespace}lang=en]",
+    ),
+    (
+        "<a xmlns:xml='u' xml:lang='en'/>",
+        "a[{http://www.w3.org/XML/1998/namespace}lang=en]",
+    ),
+    ("<a xmlns:p='&#117;&amp;'><p:b/></a>", "a({u&}b)"),
+    ("<a xmlns:p=''/>", "Malformed"),
+    ("<a xmlns:p='u' xmlns:p='u'/>", "Malformed"),
+    ("<a xmlns='u' xmlns='u'/>", "Malformed"),
+    ("<p:a/>", "Prefix"),
+    ("<a p:b='1'/>", "Prefix"),
+    ("<xmlns:a/>", "Prefix"),
+    // Which fault is named: the first item's, and of one item the first in the order of faults.
+    ("<p:a b='<'/>", "Malformed"),
+    ("<p:a b='1' b='2'/>", "Malformed"),
+    (
+        "<p:a xmlns:q='u' xmlns:r='u' q:b='1' r:b='2'/>",
+        "Malformed",
+    ),
+    ("<p:a xmlns:q=''/>", "Malformed"),
+    ("<p:a q:b='1' q:b='2'/>", "Malformed"),
+    ("<a>]]><p:b/></a>", "Malformed"),
+    ("<a><p:b/>]]></a>", "Prefix"),
+    ("<p:a></b>", "Prefix"),
+    ("<a>x<p:b/></a>", "Prefix"),
+    ("<a><b><!DOCTYPE c></a>", "Doctype"),
+    ("<a></b><!DOCTYPE c>", "Malformed"),
+    // The characters are judged before all else.
+    ("<a>\u{fffe}", "NotText"),
+    ("<a></b>\u{1}", "NotText"),
+    (
+        "<a>\u{fffd}\u{e000}\u{10000}\u{7f}</a>",
+        "a\"\u{fffd}\u{e000}\u{10000}\u{7f}\"",
+    ),
+];
+
+#[test]
+fn reads_documents(rt: HostRuntime) -> Result<(), Fail> {
+    for (text, wanted) in DOCUMENTS {
+        let found = reading(rt.alloc(), text.as_bytes())?;
+        assert_eq!(rt; found.as_str(), *wanted, "at {text}");
+    }
+    assert_eq!(rt; reading(rt.alloc(), b"<a>\xff</a>")?.as_str(), "NotText");
+    assert_eq!(rt;
+        reading(rt.alloc(), b"<a>\xed\xa0\x80</a>")?.as_str(),
+        "NotText"
+    );
+    Ok(())
+}
+
+fn repeated(
+    alloc: Global,
+    before: &str,
+    piece: &str,
+    count: u32,
+    after: &str,
+) -> Result<String, Fail> {
+    let mut text = String::new(alloc);
+    text.push_str(before)?;
+    for _ in 0..count {
+        text.push_str(piece)?;
+    }
+    text.push_str(after)?;
+    Ok(text)
+}
+
+fn nested(alloc: Global, levels: u32, inside: &str) -> Result<String, Fail> {
+    let starts = repeated(alloc, "", "<a>", levels, inside)?;
+    repeated(alloc, starts.as_str(), "</a>", levels, "")
+}
+
+fn fault_of(alloc: Global, text: &String) -> Option<DocFault> {
+    read_document(alloc, text.as_bytes()).err()
+}
+
+#[test]
+fn counts_levels_and_elements(rt: HostRuntime) -> Result<(), Fail> {
+    let alloc = rt.alloc();
+    assert_eq!(rt; fault_of(alloc, &nested(alloc, 32, "x")?), None);
+    assert_eq!(rt; fault_of(alloc, &nested(alloc, 31, "<b/>")?), None);
+    assert_eq!(rt;
+        fault_of(alloc, &nested(alloc, 33, "x")?),
+        Some(DocFault::TooDeep)
+    );
+    assert_eq!(rt;
+        fault_of(alloc, &nested(alloc, 32, "<b/>")?),
+        Some(DocFault::TooDeep)
+    );
+    assert_eq!(rt;
+        fault_of(alloc, &nested(alloc, 32, "<p:b/>")?),
+        Some(DocFault::Prefix)
+    );
+    assert_eq!(rt;
+        fault_of(alloc, &nested(alloc, 32, "<b c='1' c='1'/>")?),
+        Some(DocFault::Malformed)
+    );
+    let most = repeated(alloc, "<a>", "<b/>", 99_999, "</a>")?;
+    assert_eq!(rt; fault_of(alloc, &most), None);
+    let too_many = repeated(alloc, "<a>", "<b/>", 100_000, "<p:c/></a>")?;
+    assert_eq!(rt; fault_of(alloc, &too_many), Some(DocFault::TooMany));
+    Ok(())
+}
+
+/// A tag with so many attributes, and as many declarations.
+fn tag(alloc: Global, count: u32, after: &str) -> Result<String, Fail> {
+    let mut text = String::from_str(alloc, "<a")?;
+    for i in 0..count {
+        write!(text, " b{i}='' xmlns:p{i}='u'")?;
+    }
+    text.push_str(after)?;
+    Ok(text)
+}
+
+#[test]
+fn counts_attributes(rt: HostRuntime) -> Result<(), Fail> {
+    let alloc = rt.alloc();
+    assert_eq!(rt; fault_of(alloc, &tag(alloc, 64, "/>")?), None);
+    assert_eq!(rt;
+        fault_of(alloc, &tag(alloc, 65, "/>")?),
+        Some(DocFault::TooMany)
+    );
+    assert_eq!(rt;
+        fault_of(alloc, &tag(alloc, 65, " b0=''/>")?),
+        Some(DocFault::Malformed)
+    );
+    assert_eq!(rt;
+        fault_of(alloc, &tag(alloc, 65, " q:b=''/>")?),
+        Some(DocFault::Prefix)
+    );
+    Ok(())
+}
