@@ -1,0 +1,13 @@
+pub mod Images
+pub mod Calls
+pub mod Whole
+pub mod Pairs
+pub mod Idle
+pub mod Parsed
+pub mod Current
+pub mod Stale
+pub mod Knowing
+pub mod First
+pub mod Added
+pub mod NextSide
+pub mod Recovered

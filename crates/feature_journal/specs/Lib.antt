@@ -1,0 +1,10 @@
+pub mod Side
+pub mod Outcome
+pub mod Whole
+pub mod Held
+pub mod Kept
+pub mod Made
+pub mod Recover
+pub mod Settled
+pub mod Nothing
+pub mod Making

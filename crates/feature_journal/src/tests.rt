@@ -1,0 +1,193 @@
+ghost use Rattle.std.specs.Prelude.{◌≡◌, ◌<◌, List, ℕ, IfOk};
+ghost use Rattle.feature_journal.specs.Nothing.{Unused};
+ghost use Rattle.feature_journal.specs.Kept.{Rests, generation_in};
+
+use super::*;
+use disk_core::{Disk, MemDisk, Pair};
+use std::alloc::Global;
+use std::test::Fail;
+use wfs_ends::{Failed, Mem};
+
+// Side a with generation 1 and side b with generation 2, each with the record `hi`. Byte 0 and the record's gate are those
+// of the row.
+const FIRST: [u8; 24] = *b"\x01WFSJNL\x01\0\0\0\0\0\0\0\x01\0\0\0\0\x02hi\0";
+
+const SECOND: [u8; 24] = *b"\0WFSJNL\x01\0\0\0\0\0\0\0\x02\x01\0\0\0\x02hi\0";
+
+// An empty disk. The calls that are listed fail, and all from the stop on.
+fn empty_disk(alloc: Global, listed: &[u64], stop: Option<u64>) -> Mem<MemDisk>
+    ensures { IfOk result (λ m. Unused (⟦<MemDisk as Disk>⟧.images m)) }
+{
+    let mut failing = Vec::new(alloc);
+    failing.extend_from_slice(listed)?;
+    MemDisk::new(alloc, Vec::new(alloc), 60, 200, failing, stop)
+}
+
+// Adds `hi` to a fresh journal: whether that was done, whether something is begun, and the disks.
+fn run_append<D: Disk + Drop>(disks: Pair<D>) -> Result<(bool, bool, Pair<D>), Failed>
+    requires { Unused (D.images disks.a) × Unused (D.images disks.b) }
+{
+    let Ok(mut journal) = Journal::fresh(disks, 100) else {
+        return Err(Failed);
+    };
+    let is_done = journal.append(b"hi").is_ok();
+    Ok((is_done, journal.is_begun(), journal.into_disks()))
+}
+
+// The same with a repair after a fault.
+fn run_repair<D: Disk + Drop>(disks: Pair<D>) -> Result<(bool, bool, Pair<D>), Failed>
+    requires { Unused (D.images disks.a) × Unused (D.images disks.b) }
+{
+    let Ok(mut journal) = Journal::fresh(disks, 100) else {
+        return Err(Failed);
+    };
+    let is_done = match journal.append(b"hi") {
+        Err(AppendFault::DiskFault) => journal.repair().is_ok(),
+        _ => false,
+    };
+    Ok((is_done, journal.is_begun(), journal.into_disks()))
+}
+
+fn make_side<D: Disk>(journal: &mut Journal<D>) -> bool
+    requires rests { (bodies : List (List ℕ)) × Rests D.images bodies journal.old }
+    requires first { generation_in journal.old ≡ 1 }
+{
+    match journal.begin_side() {
+        Err(_) => false,
+        Ok(()) => match journal.add_record(b"hi") {
+            Err(_) => false,
+            Ok(()) => journal.finish_side().is_ok(),
+        },
+    }
+}
+
+// Makes side b current in a fresh journal.
+fn run_side<D: Disk + Drop>(disks: Pair<D>) -> Result<(bool, bool, Pair<D>), Failed>
+    requires { Unused (D.images disks.a) × Unused (D.images disks.b) }
+{
+    let Ok(mut journal) = Journal::fresh(disks, 100) else {
+        return Err(Failed);
+    };
+    let is_done = make_side(&mut journal);
+    Ok((is_done, journal.is_begun(), journal.into_disks()))
+}
+
+// Whether a crash that keeps so many writes leaves just the first bytes of these.
+fn leaves(disk: MemDisk, keep: u32, want: &[u8; 24], length: usize) -> bool {
+    let mut crashed = disk.crash(keep);
+    let mut into = [0; 24];
+    match crashed.read(0, &mut into) {
+        Ok(n) => n == length && n <= 24 && into[..n] == want[..n],
+        Err(_) => false,
+    }
+}
+
+// The disk calls of a fresh journal are 0 to 7. Then come the length, the body, the closed gate and a sync, and the
+// open gate and a sync. A row is the failing call, whether the record was added and is begun, how many writes since the
+// last sync the crash keeps, and the length and the gate that it leaves.
+#[test]
+fn each_call_of_append_may_fail(rt: HostRuntime) -> Result<(), Fail> {
+    for (call, is_added, is_begun, keep, length, gate) in [
+        (8, false, false, 9, 17, 0),
+        (9, false, false, 9, 21, 0),
+        (10, false, false, 1, 21, 0),
+        (10, false, false, 9, 23, 0),
+        (11, false, false, 0, 17, 0),
+        (11, false, false, 9, 24, 0),
+        (12, false, true, 9, 24, 0),
+        (13, false, true, 0, 24, 0),
+        (13, false, true, 1, 24, 1),
+        (14, true, false, 0, 24, 1),
+    ] {
+        let mut want = FIRST;
+        want[16] = gate;
+        let alloc = rt.alloc();
+        let failing = empty_disk(alloc, &[call], None)?;
+        let (a, b) = (failing, empty_disk(alloc, &[], None)?);
+        let (done, begun, disks) = run_append(Pair { a, b })?;
+        assert_eq!(rt; (done, begun), (is_added, is_begun), "at {call}");
+        assert!(rt; leaves(disks.a, keep, &want, length), "at {call}");
+        let (a, b) = (
+            empty_disk(alloc, &[], Some(call))?,
+            empty_disk(alloc, &[], None)?,
+        );
+        let (done, begun, disks) = run_append(Pair { a, b })?;
+        assert_eq!(rt; (done, begun), (is_added, is_begun), "stopped at {call}");
+        assert!(rt; leaves(disks.a, keep, &want, length), "stopped at {call}");
+    }
+    Ok(())
+}
+
+// The gate or its sync fails, and then maybe the gate of the repair or its sync.
+#[test]
+fn each_call_of_repair_may_fail(rt: HostRuntime) -> Result<(), Fail> {
+    for (first, second, is_repaired, keep, gate) in [
+        (12, 13, false, 9, 0),
+        (12, 14, false, 0, 0),
+        (13, 14, false, 0, 0),
+        (13, 14, false, 9, 1),
+        (13, 15, false, 1, 1),
+        (13, 15, false, 2, 0),
+        (13, 16, true, 9, 0),
+    ] {
+        let mut want = FIRST;
+        want[16] = gate;
+        let alloc = rt.alloc();
+        let (a, b) = (
+            empty_disk(alloc, &[first, second], None)?,
+            empty_disk(alloc, &[], None)?,
+        );
+        let (done, begun, disks) = run_repair(Pair { a, b })?;
+        assert_eq!(rt;
+            (done, begun),
+            (is_repaired, !is_repaired),
+            "at {first}, {second}"
+        );
+        assert!(rt; leaves(disks.a, keep, &want, 24), "at {first}, {second}");
+    }
+    Ok(())
+}
+
+// On side b: a read, byte 0 and a sync; the cut, the mark and the generation; the record's gate, length and body; the
+// closed gate and a sync; byte 0 and a sync.
+#[test]
+fn each_call_of_a_side_may_fail(rt: HostRuntime) -> Result<(), Fail> {
+    for (call, is_made, is_begun, keep, length, first) in [
+        (0, false, false, 9, 0, 0),
+        (1, false, false, 9, 0, 0),
+        (2, false, false, 0, 0, 0),
+        (2, false, false, 9, 1, 0),
+        (3, false, false, 9, 1, 0),
+        (4, false, false, 9, 1, 0),
+        (5, false, false, 9, 8, 0),
+        (6, false, false, 9, 16, 0),
+        (7, false, false, 9, 17, 0),
+        (8, false, false, 9, 21, 0),
+        (9, false, false, 9, 23, 0),
+        (10, false, false, 0, 1, 0),
+        (10, false, false, 9, 24, 0),
+        (11, false, true, 9, 24, 0),
+        (12, false, true, 0, 24, 0),
+        (12, false, true, 1, 24, 1),
+        (13, true, false, 0, 24, 1),
+    ] {
+        let mut want = SECOND;
+        want[0] = first;
+        let alloc = rt.alloc();
+        let (a, b) = (
+            empty_disk(alloc, &[], None)?,
+            empty_disk(alloc, &[call], None)?,
+        );
+        let (done, begun, disks) = run_side(Pair { a, b })?;
+        assert_eq!(rt; (done, begun), (is_made, is_begun), "at {call}");
+        assert!(rt; leaves(disks.b, keep, &want, length), "at {call}");
+        let (a, b) = (
+            empty_disk(alloc, &[], None)?,
+            empty_disk(alloc, &[], Some(call))?,
+        );
+        let (done, begun, disks) = run_side(Pair { a, b })?;
+        assert_eq!(rt; (done, begun), (is_made, is_begun), "stopped at {call}");
+        assert!(rt; leaves(disks.b, keep, &want, length), "stopped at {call}");
+    }
+    Ok(())
+}
