@@ -1,0 +1,15 @@
+pub mod Buffers
+pub mod Room
+pub mod Bad
+pub mod Cuts
+pub mod HeadReads
+pub mod FieldReads
+pub mod Plans
+pub mod Bodies
+pub mod Sizes
+pub mod Spots
+pub mod Turns
+pub mod LineLaws
+pub mod Follows
+pub mod Unique
+pub mod Readings

@@ -1,0 +1,223 @@
+-- What the reader's steps come to.
+use Rattle.std.proofs.Common.{◌≡◌, ℕ, ◌≤◌, Bool, true, false, List, [], ◌++◌, length, drop, refl, sym, ap, subst, ◌∙◌, arith, append-nil, Option, Some, None}
+use Rattle.std.specs.Prelude.{Ok, Err, IfSome}
+use Rattle.wfs_ends.specs.Ends.{Shown, Rose, KeepsGiven, GivesAll, given_more}
+use Rattle.httparse.specs.Grammar.{print_request, ReadsRequest}
+use Rattle.httparse.proofs.GrammarLemmas.{ReadsRequest-append}
+use Rattle.httparse.specs.declared.spans.HeaderSpan.{HeaderSpan}
+use Rattle.httparse.specs.declared.spans.RequestSpans.{RequestSpans}
+use Rattle.http_session.specs.declared.message.Ending.{Ending}
+use Rattle.http_session.specs.declared.message.Ending.TheVariants as ending
+use Rattle.http_session.specs.declared.message.Next.{Next}
+use Rattle.http_session.specs.declared.message.Next.TheVariants as next
+use Rattle.http_session.specs.declared.plan.Plan.{Plan}
+use Rattle.http_session.specs.declared.start.Start.{Start}
+use Rattle.http_session.specs.Heads.{head, no_head, head_limit, EndsWithoutHead}
+use Rattle.http_session.specs.Fields.{judged}
+use Rattle.http_session.specs.Frames.{Frame, ended, is_due, BodyFound, content, no_content, framed, IsBody, HasBody, IsFramed, IsNext}
+use Rattle.http_session.specs.Reading.{after_buffer, ahead, Moved, HeadAt}
+use Rattle.http_session.specs.Answers.{Answers, OnlyDue, Written, Stays, ReadsBy, Reads, IsBodyNext, IsAsked, interim, next_of}
+use Rattle.http_session.proofs.Unique.{frames_of_head}
+
+-- ---- options
+
+if_map : {X : Type 0} (P Q : X → Type 0) (o : Option X) → ((x : X) → P x → Q x) → IfSome o P → IfSome o Q
+if_map {X} P Q None f h = tt
+if_map {X} P Q (Some x) f h = f x h
+
+-- ---- answers
+
+only_map : (P Q : Frame → Type 0) (due : Bool) → ((f : Frame) → Q f → P f) → OnlyDue due P → OnlyDue due Q
+only_map P Q due back h = λ frame q. h frame (back frame q)
+
+answers_map : (P Q : Frame → Type 0) (due : Bool) (a : Next) (left : Option (List ℕ)) → ((f : Frame) → P f → Q f) → ((f : Frame) → Q f → P f) → Answers P due a left → Answers Q due a left
+answers_map P Q due (next.Message m) left to back (rest, p, e) = (rest, to _ p, e)
+answers_map P Q due next.End left to back h = to _ h
+answers_map P Q due next.BadHead left to back h = to _ h
+answers_map P Q due next.TooLarge left to back h = to _ h
+answers_map P Q due next.NoLength left to back h = to _ h
+answers_map P Q due next.Coding left to back h = to _ h
+answers_map P Q due next.Cut left to back h = to _ h
+answers_map P Q due next.ReadFault left to back h = only_map P Q due back h
+answers_map P Q due next.WriteFault left to back h = only_map P Q due back h
+answers_map P Q due next.OutOfMemory left to back h = only_map P Q due back h
+
+answers_ended : (P : Frame → Type 0) (due : Bool) (e : Ending) (a : Next) (left : Option (List ℕ)) → a ≡ next_of e → P (ended e due) → Answers P due a left
+answers_ended P due ending.End a left is p = rw is p
+answers_ended P due ending.Cut a left is p = rw is p
+answers_ended P due ending.BadHead a left is p = rw is p
+answers_ended P due ending.TooLarge a left is p = rw is p
+answers_ended P due ending.NoLength a left is p = rw is p
+answers_ended P due ending.Coding a left is p = rw is p
+
+no_read_fault : (e : Ending) (a : Next) → a ≡ next_of e → ¬ (a ≡ next.ReadFault)
+no_read_fault ending.End a is k = absurd cc
+no_read_fault ending.Cut a is k = absurd cc
+no_read_fault ending.BadHead a is k = absurd cc
+no_read_fault ending.TooLarge a is k = absurd cc
+no_read_fault ending.NoLength a is k = absurd cc
+no_read_fault ending.Coding a is k = absurd cc
+
+no_write_fault : (e : Ending) (a : Next) → a ≡ next_of e → ¬ (a ≡ next.WriteFault)
+no_write_fault ending.End a is k = absurd cc
+no_write_fault ending.Cut a is k = absurd cc
+no_write_fault ending.BadHead a is k = absurd cc
+no_write_fault ending.TooLarge a is k = absurd cc
+no_write_fault ending.NoLength a is k = absurd cc
+no_write_fault ending.Coding a is k = absurd cc
+
+-- ---- the body
+
+pub body_ended : (start : Start) (e : Ending) (a : Next) (b b' : List ℕ) (s t : Shown) → a ≡ next_of e → IfSome (ahead b s) (λ bytes. IsBody start.plan.body bytes (no_content e)) → IsBodyNext start a b s b' t
+body_ended start e a b b' s t is h = record {
+  answers = if_map (λ bytes. IsBody start.plan.body bytes (no_content e)) (λ bytes. Answers (HasBody start.method start.target start.plan bytes) start.plan.due a (ahead b' t)) (ahead b s)
+      (λ bytes k. answers_ended (HasBody start.method start.target start.plan bytes) start.plan.due e a (ahead b' t) is (no_content e, k, refl)) h;
+  fault = λ k. absurd (no_read_fault e a is k);
+  read = λ k. no_write_fault e a is k;
+}
+
+-- ---- what is written
+
+given_none : (o : Option (List ℕ)) → o ≡ given_more o []
+given_none None = refl
+given_none (Some g) = ap Some (sym (append-nil g))
+
+pub asked_not : (due : Bool) (s : Shown) → due ≡ false → IsAsked due false s s
+asked_not due s is = rw is (record { given = given_none s.given; keeps = record { left = refl; takes = refl; puts = omega arith; place = refl } })
+
+frame_due : (method target : List ℕ) (plan : Plan) (found : BodyFound) → is_due (framed method target plan found) ≡ plan.due
+frame_due method target plan (content found rest) = refl
+frame_due method target plan (no_content e) = refl
+
+pub ask_failed : (start : Start) (b b' : List ℕ) (s t : Shown) → IsAsked start.plan.due true s t → ReadsBy (HasBody start.method start.target start.plan) b s next.WriteFault b' t
+ask_failed start b b' s t (due, front) = record {
+  due = true;
+  answers = each (ahead b s);
+  written = (refl, record { front = front.front; rest = front.rest; parts = front.parts; given = front.given; cause = front.cause });
+  stays = record { takes = omega (arith, front.keeps.takes); puts = front.keeps.puts; place = front.keeps.place };
+}
+  where
+    each : (o : Option (List ℕ)) → IfSome o (λ bytes. OnlyDue true (HasBody start.method start.target start.plan bytes))
+    each None = tt
+    each (Some bytes) = λ frame (found, is, e) yes. ap is_due e ∙ frame_due start.method start.target start.plan found ∙ due
+
+written_by : (due : Bool) (a : Next) (s m t : Shown) → GivesAll s (interim due) m → KeepsGiven m t → (a ≡ next.ReadFault → Rose m.failed_takes t.failed_takes) → (a ≡ next.WriteFault → ⊥) → Written due a s t
+written_by due (next.Message x) s m t g k fault read = k.given ∙ g.given
+written_by due next.End s m t g k fault read = k.given ∙ g.given
+written_by due next.BadHead s m t g k fault read = k.given ∙ g.given
+written_by due next.TooLarge s m t g k fault read = k.given ∙ g.given
+written_by due next.NoLength s m t g k fault read = k.given ∙ g.given
+written_by due next.Coding s m t g k fault read = k.given ∙ g.given
+written_by due next.Cut s m t g k fault read = k.given ∙ g.given
+written_by due next.ReadFault s m t g k fault read = (k.given ∙ g.given, let r = fault refl in omega (arith, g.keeps.takes, r))
+written_by due next.WriteFault s m t g k fault read = absurd (read refl)
+written_by due next.OutOfMemory s m t g k fault read = k.given ∙ g.given
+
+stays_by : (text : List ℕ) (s m t : Shown) → GivesAll s text m → KeepsGiven m t → Stays s t
+stays_by text s m t g k = record { takes = omega (arith, g.keeps.takes, k.takes); puts = omega (arith, g.keeps.puts, k.puts); place = k.place ∙ g.keeps.place }
+
+pub rest_read : (start : Start) (a : Next) (b b' : List ℕ) (s m t : Shown) → IsAsked start.plan.due false s m → IsBodyNext start a b m b' t → KeepsGiven m t → ReadsBy (HasBody start.method start.target start.plan) b s a b' t
+rest_read start a b b' s m t g n k = record {
+  due = start.plan.due;
+  answers = subst (λ left. IfSome (after_buffer b left) (λ bytes. Answers (HasBody start.method start.target start.plan bytes) start.plan.due a (ahead b' t))) g.keeps.left n.answers;
+  written = written_by start.plan.due a s m t g k n.fault n.read;
+  stays = stays_by (interim start.plan.due) s m t g k;
+}
+
+-- ---- the head
+
+stays_same : (s : Shown) → Stays s s
+stays_same s = record { takes = omega arith; puts = omega arith; place = refl }
+
+written_none : (e : Ending) (a : Next) (s : Shown) → a ≡ next_of e → Written false a s s
+written_none ending.End a s is = rw is (given_none s.given)
+written_none ending.Cut a s is = rw is (given_none s.given)
+written_none ending.BadHead a s is = rw is (given_none s.given)
+written_none ending.TooLarge a s is = rw is (given_none s.given)
+written_none ending.NoLength a s is = rw is (given_none s.given)
+written_none ending.Coding a s is = rw is (given_none s.given)
+
+-- the bytes end without a head
+pub head_ended : (e : Ending) (a : Next) (b : List ℕ) (s : Shown) → a ≡ next_of e → IfSome (ahead b s) (λ bytes. EndsWithoutHead bytes e) → Reads b s a b s
+head_ended e a b s is h = record {
+  due = false;
+  answers = if_map (λ bytes. EndsWithoutHead bytes e) (λ bytes. Answers (IsNext bytes) false a (ahead b s)) (ahead b s) (λ bytes k. answers_ended (IsNext bytes) false e a (ahead b s) is (no_head e, k, refl)) h;
+  written = written_none e a s is;
+  stays = stays_same s;
+}
+
+head_before : (b : List ℕ) (headers : List HeaderSpan) (spans : RequestSpans) (l : List ℕ) (at : HeadAt b headers spans) → ReadsRequest (b ++ l) at.head (drop spans.len b ++ l)
+head_before b headers spans l at = ReadsRequest-append b at.head (drop spans.len b) l at.at.reads
+
+head_short : (b : List ℕ) (headers : List HeaderSpan) (spans : RequestSpans) (at : HeadAt b headers spans) → length b ≤ head_limit → length (print_request at.head) ≤ head_limit
+head_short b headers spans at le = omega (arith, at.at.len, at.within.section.len_fits, le)
+
+-- the head's fields are refused
+pub head_refused : (e : Ending) (a : Next) (b : List ℕ) (headers : List HeaderSpan) (spans : RequestSpans) (s : Shown) (at : HeadAt b headers spans) → length b ≤ head_limit → a ≡ next_of e → judged at.head ≡ Err e → Reads b s a b s
+head_refused e a b headers spans s at le is refused = record {
+  due = false;
+  answers = each s.left;
+  written = written_none e a s is;
+  stays = stays_same s;
+}
+  where
+    each : (left : Option (List ℕ)) → IfSome (after_buffer b left) (λ bytes. Answers (IsNext bytes) false a (ahead b s))
+    each None = tt
+    each (Some l) = answers_ended (IsNext (b ++ l)) false e a (ahead b s) is
+        (head at.head (drop spans.len b ++ l), (head_before b headers spans l at, head_short b headers spans at le), subst (λ r. IsFramed at.head r (drop spans.len b ++ l) (ended e false)) (sym refused) refl)
+
+-- the body follows the head
+pub head_followed : (start : Start) (a : Next) (b c b' : List ℕ) (headers : List HeaderSpan) (spans : RequestSpans) (s t : Shown) (at : HeadAt b headers spans) → length b ≤ head_limit
+    → start.method ≡ at.head.method → start.target ≡ at.head.target → judged at.head ≡ Ok start.plan → c ≡ drop spans.len b
+    → ReadsBy (HasBody start.method start.target start.plan) c s a b' t → Reads b s a b' t
+head_followed start a b c b' headers spans s t at le method target plan skip r = record {
+  due = r.due;
+  answers = each s.left (subst (λ (x : List ℕ). IfSome (after_buffer x s.left) (λ bytes. Answers (HasBody start.method start.target start.plan bytes) r.due a (ahead b' t))) skip r.answers);
+  written = r.written;
+  stays = r.stays;
+}
+  where
+    same : (rest : List ℕ) (frame : Frame) → HasBody start.method start.target start.plan rest frame → IsFramed at.head (judged at.head) rest frame
+    same rest frame h = subst (λ r. IsFramed at.head r rest frame) (sym plan) (subst (λ (x : List ℕ). HasBody x at.head.target start.plan rest frame) method (subst (λ (x : List ℕ). HasBody start.method x start.plan rest frame) target h))
+
+    back : (rest : List ℕ) (frame : Frame) → IsFramed at.head (judged at.head) rest frame → HasBody start.method start.target start.plan rest frame
+    back rest frame h = subst (λ (x : List ℕ). HasBody start.method x start.plan rest frame) (sym target) (subst (λ (x : List ℕ). HasBody x at.head.target start.plan rest frame) (sym method) (subst (λ r. IsFramed at.head r rest frame) plan h))
+
+    each : (left : Option (List ℕ)) → IfSome (after_buffer (drop spans.len b) left) (λ bytes. Answers (HasBody start.method start.target start.plan bytes) r.due a (ahead b' t)) → IfSome (after_buffer b left) (λ bytes. Answers (IsNext bytes) r.due a (ahead b' t))
+    each None h = tt
+    each (Some l) h = answers_map (HasBody start.method start.target start.plan (drop spans.len b ++ l)) (IsNext (b ++ l)) r.due a (ahead b' t)
+        (λ frame k. (head at.head (drop spans.len b ++ l), (head_before b headers spans l at, head_short b headers spans at le), same (drop spans.len b ++ l) frame k))
+        (λ frame k. back (drop spans.len b ++ l) frame (frames_of_head (b ++ l) at.head (drop spans.len b ++ l) frame (head_before b headers spans l at) (head_short b headers spans at le) k))
+        h
+
+-- ---- bytes were taken before
+
+written_moved : (due : Bool) (a : Next) (s m t : Shown) → KeepsGiven s m → Written due a m t → Written due a s t
+written_moved due (next.Message x) s m t k w = w ∙ ap (λ o. given_more o (interim due)) k.given
+written_moved due next.End s m t k w = w ∙ ap (λ o. given_more o (interim due)) k.given
+written_moved due next.BadHead s m t k w = w ∙ ap (λ o. given_more o (interim due)) k.given
+written_moved due next.TooLarge s m t k w = w ∙ ap (λ o. given_more o (interim due)) k.given
+written_moved due next.NoLength s m t k w = w ∙ ap (λ o. given_more o (interim due)) k.given
+written_moved due next.Coding s m t k w = w ∙ ap (λ o. given_more o (interim due)) k.given
+written_moved due next.Cut s m t k w = w ∙ ap (λ o. given_more o (interim due)) k.given
+written_moved due next.OutOfMemory s m t k w = w ∙ ap (λ o. given_more o (interim due)) k.given
+written_moved due next.ReadFault s m t k w = (w.0 ∙ ap (λ o. given_more o (interim due)) k.given, omega (arith, k.takes, w.1))
+written_moved due next.WriteFault s m t k w =
+    (w.0, record { front = w.1.front; rest = w.1.rest; parts = w.1.parts; given = w.1.given ∙ ap (λ o. given_more o w.1.front) k.given; cause = subst (λ (n : ℕ). Rose n t.failed_puts) k.puts w.1.cause })
+
+pub reads_moved : (a : Next) (b c b' : List ℕ) (s m t : Shown) → Moved b s c m → Reads c m a b' t → Reads b s a b' t
+reads_moved a b c b' s m t moved r = record {
+  due = r.due;
+  answers = subst (λ o. IfSome o (λ bytes. Answers (IsNext bytes) r.due a (ahead b' t))) moved.same r.answers;
+  written = written_moved r.due a s m t moved.keeps r.written;
+  stays = record { takes = omega (arith, moved.keeps.takes, r.stays.takes); puts = omega (arith, moved.keeps.puts, r.stays.puts); place = r.stays.place ∙ moved.keeps.place };
+}
+
+-- ---- a link's source and its sink are one
+
+pub ask_failed_at : (start : Start) (b b' : List ℕ) (s s' t t' : Shown) → s ≡ s' → t ≡ t' → IsAsked start.plan.due true s' t' → ReadsBy (HasBody start.method start.target start.plan) b s next.WriteFault b' t
+ask_failed_at start b b' s s' t t' e k h = ask_failed start b b' s t (subst (λ x. IsAsked start.plan.due true x t) (sym e) (subst (λ x. IsAsked start.plan.due true s' x) (sym k) h))
+
+pub rest_read_at : (start : Start) (a : Next) (b b' : List ℕ) (s s' m m' t : Shown) → s ≡ s' → m ≡ m' → IsAsked start.plan.due false s' m' → IsBodyNext start a b m b' t → KeepsGiven m t
+    → ReadsBy (HasBody start.method start.target start.plan) b s a b' t
+rest_read_at start a b b' s s' m m' t e k h n keeps = rest_read start a b b' s m t (subst (λ x. IsAsked start.plan.due false x m) (sym e) (subst (λ x. IsAsked start.plan.due false s' x) (sym k) h)) n keeps

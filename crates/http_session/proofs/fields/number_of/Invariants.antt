@@ -1,0 +1,9 @@
+use Rattle.std.proofs.Common.{◌≡◌, take, true}
+use Rattle.std.specs.List.{list_all}
+use Rattle.std.specs.Char.{is_ascii_digit}
+use Rattle.std.specs.Str.Parse.{digits_value}
+use Rattle.http_session.specs.Fields.{capped}
+use Rattle.http_session.proofs.fields.number_of.Given as goal
+
+abbrev pub invariant-loop-digit : goal.invariant-loop-digit
+invariant-loop-digit l = (list_all is_ascii_digit (take l.digit-index l.digits) ≡ true) × (l.number ≡ capped (digits_value 10 (take l.digit-index l.digits)))

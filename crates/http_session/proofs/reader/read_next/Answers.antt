@@ -1,0 +1,8 @@
+use Rattle.http_session.proofs.Readings.{reads_moved, head_ended}
+use Rattle.http_session.proofs.reader.read_next.Goals as goal
+
+pub returns-in-Head-clause-reads : goal.returns-in-Head-clause-reads
+returns-in-Head-clause-reads g c = reads_moved _ _ _ _ _ _ _ c.read_head.ensures.moved c.read_message.ensures.reads
+
+pub returns-in-Ended-clause-reads : goal.returns-in-Ended-clause-reads
+returns-in-Ended-clause-reads g c = reads_moved _ _ _ _ _ _ _ c.read_head.ensures.moved (head_ended c.in-Ended.ending _ _ _ c.next_of.ensures c.in-Ended.ensures.read)

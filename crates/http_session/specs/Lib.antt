@@ -1,0 +1,9 @@
+pub mod Cuts
+pub mod Heads
+pub mod Fields
+pub mod Chunks
+pub mod Frames
+pub mod Reading
+pub mod Lines
+pub mod Spots
+pub mod Answers
