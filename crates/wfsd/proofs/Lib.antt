@@ -1,0 +1,11 @@
+pub mod Fields
+pub mod Finish
+pub mod Heads
+pub mod Held
+pub mod Listening
+pub mod Numbers
+pub mod OneOutcome
+pub mod Rounds
+pub mod Stated
+pub mod Turns
+pub mod Two

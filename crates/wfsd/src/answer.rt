@@ -1,0 +1,91 @@
+ghost use Rattle.std.specs.Prelude.{◌≡◌, length, decimal, false, List, ℕ};
+ghost use Rattle.wfs_ends.specs.Ends.{Shown, capped, Gives, Writes};
+ghost use Rattle.wfsd.specs.ReplyText.{phrase_of, close_text, status_line, head_text};
+
+use http::StatusCode;
+use itoa::Buffer;
+use wfs_ends::{Sink, WriteFault, flush_on, put_on};
+
+// The parts of the head of an answer (RFC 9112, section 4).
+const MEDIA_AND_LENGTH: &[u8] = b"\r\nContent-Type: text/xml\r\nContent-Length: ";
+
+const CLOSE: &[u8] = b"\r\nConnection: close";
+
+const END: &[u8] = b"\r\n\r\n";
+
+/// Gives a number in decimal.
+pub fn put_number<S: Sink>(sink: &mut S, failed: bool, number: u64) -> bool
+    ensures { Writes (record { shown = S.sink sink.old; failed = failed }) (decimal number) (record { shown = S.sink sink.new; failed = result }) }
+{
+    let mut buffer = Buffer::new();
+    put_on(sink, failed, buffer.format(number).as_bytes())
+}
+
+/// How many bytes a number in decimal has.
+pub fn number_length(number: u64) -> u64
+    ensures { result ≡ capped (length (decimal number)) }
+{
+    let mut buffer = Buffer::new();
+    buffer.format(number).len() as u64
+}
+
+// The number of a status.
+fn number_of(status: StatusCode) -> u64
+    ensures { result ≡ status }
+{
+    u64::from(status.as_u16())
+}
+
+// The phrase of a status.
+#[tactic(auto, unfolding(crate::specs::ReplyText::phrase_of))]
+fn phrase_of(status: StatusCode) -> &'static [u8]
+    ensures { result.now ≡ phrase_of status }
+{
+    match status.canonical_reason() {
+        Some(phrase) => phrase.as_bytes(),
+        None => b"",
+    }
+}
+
+// Gives the status line, without its end.
+fn put_status<S: Sink>(sink: &mut S, status: StatusCode) -> bool
+    ensures { Writes (record { shown = S.sink sink.old; failed = false }) (status_line status) (record { shown = S.sink sink.new; failed = result }) }
+{
+    let failed = put_on(sink, false, b"HTTP/1.1 ");
+    let failed = put_number(sink, failed, number_of(status));
+    let failed = put_on(sink, failed, b" ");
+    put_on(sink, failed, phrase_of(status))
+}
+
+// Says that the connection ends, where it does.
+fn put_close<S: Sink>(sink: &mut S, failed: bool, close: bool) -> bool
+    ensures { Writes (record { shown = S.sink sink.old; failed = failed }) (close_text close) (record { shown = S.sink sink.new; failed = result }) }
+{
+    if close {
+        put_on(sink, failed, CLOSE)
+    } else {
+        put_on(sink, failed, b"")
+    }
+}
+
+/// Gives the head of an answer whose body has so many bytes.
+pub fn put_head<S: Sink>(sink: &mut S, status: StatusCode, size: u64, close: bool) -> bool
+    ensures { Writes (record { shown = S.sink sink.old; failed = false }) (head_text status size close) (record { shown = S.sink sink.new; failed = result }) }
+{
+    let failed = put_status(sink, status);
+    let failed = put_on(sink, failed, MEDIA_AND_LENGTH);
+    let failed = put_number(sink, failed, size);
+    let failed = put_close(sink, failed, close);
+    put_on(sink, failed, END)
+}
+
+/// Flushes what was given of a text, and says whether all of it was.
+pub fn finish<S: Sink>(sink: &mut S, failed: bool) -> Result<(), WriteFault>
+    ensures { (first : Shown) (text : List ℕ) → Writes (record { shown = first; failed = false }) text (record { shown = S.sink sink.old; failed = failed }) → Gives result first text (S.sink sink.new) }
+{
+    if flush_on(sink, failed) {
+        Err(WriteFault)
+    } else {
+        Ok(())
+    }
+}

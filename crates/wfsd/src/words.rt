@@ -1,0 +1,23 @@
+ghost use Rattle.std.specs.Prelude.{◌↔◌, IsTrue, map};
+ghost use Rattle.std.specs.String.{string_bytes};
+ghost use Rattle.wfsd.specs.Words.{IsTalk, IsFolder};
+
+/// Whether the words are `talk` and a folder.
+pub fn is_talk(words: &[String]) -> bool
+    ensures { IsTrue result ↔ IsTalk (map string_bytes words.now) }
+{
+    match words {
+        [command, folder] => command.as_str() == "talk" && is_folder(folder.as_str()),
+        _ => false,
+    }
+}
+
+// Whether a word is not empty and no option.
+fn is_folder(word: &str) -> bool
+    ensures { IsTrue result ↔ IsFolder word.now }
+{
+    match word.as_bytes() {
+        [] => false,
+        [first, ..] => *first != b'-',
+    }
+}
