@@ -1,0 +1,61 @@
+"""What the benchmarks share: messages, and the least time of a command over some runs."""
+
+import os
+import shutil
+import subprocess
+import sys
+import tempfile
+import time
+
+ROOT = os.path.dirname(os.path.dirname(os.path.abspath(__file__)))
+PROGRAM = os.path.join(ROOT, "wfsd")
+RUNS = 7
+# The status of a session that an answer closed, as the refusal of a document does.
+CLOSED = 12
+
+
+def message(body: bytes) -> bytes:
+    head = "POST /wfs HTTP/1.1\r\nHost: h\r\nContent-Length: %d\r\n\r\n" % len(body)
+    return head.encode() + body
+
+
+def built() -> None:
+    """Builds the program, so that no run measures that."""
+    subprocess.run([PROGRAM, "talk", "build"], stdin=subprocess.DEVNULL, check=True)
+
+
+def least_time(command: list, data: bytes, status: int) -> float:
+    """The least time, in seconds, of some runs of a command that reads these bytes and ends with this status."""
+    with tempfile.TemporaryFile() as source:
+        source.write(data)
+        best = float("inf")
+        for _ in range(RUNS):
+            source.seek(0)
+            start = time.perf_counter()
+            ended = subprocess.run(command, stdin=source, stdout=subprocess.DEVNULL, check=False).returncode
+            best = min(best, time.perf_counter() - start)
+            if ended != status:
+                sys.exit("%s ended with status %d and not %d" % (command[0], ended, status))
+    return best
+
+
+def wfsd_time(body: bytes, status: int) -> float:
+    program = os.path.join(ROOT, "crates", "wfsd", "out", "wfsd")
+    return least_time([program, "talk", "bench"], message(body), status)
+
+
+def xmllint_time(body: bytes):
+    """The time of `xmllint --noout` on the same bytes, or None where it is not installed."""
+    if shutil.which("xmllint") is None:
+        return None
+    return least_time(["xmllint", "--noout", "--huge", "-"], body, 0)
+
+
+def verdict(what: str, ratio: float, most: float) -> bool:
+    good = ratio <= most
+    print("%-60s %6.2f (at most %.1f)%s" % (what, ratio, most, "" if good else "  TOO MUCH"))
+    return good
+
+
+def end(results: list) -> None:
+    sys.exit(0 if all(results) else 1)
