@@ -1,0 +1,64 @@
+-- The canonical text of a tree is read back as that tree.
+use Rattle.std.proofs.Common.{◌≡◌, ℕ, ◌≤◌, true, false, List, [], ◌∷◌, ◌++◌, refl, sym, ap, subst, ◌∙◌, arith, inl}
+use Rattle.std.specs.Prelude.{encode_utf8_all}
+use Rattle.std.specs.List.{list_all}
+use Rattle.std.specs.Str.{chars}
+use Rattle.std.proofs.lemmas.List.{append-nil}
+use Rattle.std.proofs.lemmas.Str.{chars-encodes}
+use Rattle.doc_tree.specs.Tree.{document_text}
+use Rattle.doc_tree.specs.declared.tree.Element.{Element}
+use Rattle.doc_tree.specs.declared.tree.Prefixes.{Prefixes}
+use Rattle.doc_read.specs.Chars.{is_allowed}
+use Rattle.doc_read.specs.Scope.{xml_scope}
+use Rattle.doc_read.specs.Document.{line_feeds, unmarked}
+use Rattle.doc_read.specs.Grammar.{meaning, print, count, spaces, print_misc, SpellsText, Spells}
+use Rattle.doc_laws.specs.RoundTrip.{ArePrefixes, Covers, covers}
+use Rattle.doc_laws.proofs.Encoding.{IsSafe, all_both, are_allowed, are_scalars, lines_same}
+use Rattle.doc_laws.proofs.Facts.{AreAllowed, text_allowed}
+use Rattle.doc_laws.proofs.Canonical.{Canon, canon}
+
+markup_text : (cs : List ℕ) (e : Element) (s : SpellsText cs e) → AreAllowed cs → AreAllowed (print s.markup)
+markup_text cs e s allowed =
+    let tail : List ℕ = print s.markup ++ print_misc s.after in
+    let a = all_both is_allowed s.opening (print_misc s.before ++ 60 ∷ tail) (subst (λ (x : List ℕ). AreAllowed x) s.whole allowed) in
+    let b = all_both is_allowed (print_misc s.before) (60 ∷ tail) a.1 in
+    (all_both is_allowed (print s.markup) (print_misc s.after) b.1).0
+
+spelled : (names : Prefixes) (e : Element) → Canon names true 32 e 100000 → Spells (document_text names e) e
+unfolding lib.Utf8.encode
+spelled names e c =
+    let cs : List ℕ = 60 ∷ print c.markup in
+    let is_safe : IsSafe cs = c.printed_safe in
+    let bytes : encode_utf8_all cs ≡ document_text names e = sym c.same in
+    let scalars_are = are_scalars cs (are_allowed cs is_safe) in
+    let same : chars (document_text names e) ≡ cs = ap chars (sym bytes) ∙ chars-encodes cs scalars_are in
+    let lines : line_feeds false (unmarked (chars (document_text names e))) ≡ cs = ap (λ (x : List ℕ). line_feeds false (unmarked x)) same ∙ lines_same cs is_safe in
+    let text : SpellsText cs e = record {
+      opening = [];
+      before = spaces [];
+      markup = c.markup;
+      after = spaces [];
+      opening_fits = inl refl;
+      before_fits = refl;
+      fits = c.fits;
+      after_fits = refl;
+      few = c.counted;
+      means = c.means;
+      whole = ap (λ (x : List ℕ). 60 ∷ x) (sym (append-nil (print c.markup)));
+    } in
+    record {
+      text = (cs, (scalars_are, bytes));
+      allowed = ap (list_all is_allowed) same ∙ are_allowed cs is_safe;
+      spells = subst (λ (x : List ℕ). SpellsText x e) (sym lines) text;
+    }
+
+more : (names : Prefixes) (e : Element) (n : ℕ) → n ≤ 100000 → Canon names true 32 e n → Canon names true 32 e 100000
+more names e n few c = record { markup = c.markup; fits = c.fits; means = c.means; counted = omega (arith, c.counted); printed_safe = c.printed_safe; same = c.same }
+
+pub round_trip : (names : Prefixes) (e : Element) (bytes : List ℕ) → ArePrefixes names → Covers names e → Spells bytes e → Spells (document_text names e) e
+round_trip names e bytes are covering s =
+    let t = s.spells in
+    let allowed = markup_text (line_feeds false (unmarked (chars bytes))) e t (text_allowed (chars bytes) s.allowed) in
+    let covering' : covers names (meaning t.markup) ≡ true = ap (covers names) t.means ∙ covering in
+    let c = canon names t.markup true 32 xml_scope are t.fits refl allowed covering' in
+    spelled names e (more names e (count t.markup) t.few (subst (λ (x : Element). Canon names true 32 x (count t.markup)) t.means c))
