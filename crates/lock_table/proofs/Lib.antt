@@ -1,0 +1,4 @@
+pub mod Callers
+pub mod Dashes
+pub mod Holders
+pub mod Turns
