@@ -10,7 +10,8 @@ import time
 ROOT = os.path.dirname(os.path.dirname(os.path.abspath(__file__)))
 PROGRAM = os.path.join(ROOT, "wfsd")
 RUNS = 7
-# The status of a session that an answer closed, as the refusal of a document does.
+# The statuses of a session that was answered up to its end, and of one that an answer closed, as one does that refuses a form.
+ANSWERED = 0
 CLOSED = 12
 
 
