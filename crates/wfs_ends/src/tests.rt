@@ -37,6 +37,7 @@ fn a_joined_link_moves_the_bytes_of_its_halves(rt: HostRuntime) -> Result<(), Fa
         assert_eq!(rt; joined.take(&mut into), Ok(2));
         assert!(rt; joined.take(&mut into).is_err());
         assert_eq!(rt; put_all(&mut joined, b"xy"), Ok(()));
+        assert_eq!(rt; joined.flush(), Ok(()));
     }
     assert_eq!(rt; into.as_slice(), b"ab".as_slice());
     assert_eq!(rt; sink.bytes(), b"xy".as_slice());
@@ -49,6 +50,7 @@ fn a_joined_link_moves_the_bytes_of_its_halves(rt: HostRuntime) -> Result<(), Fa
     )?;
     assert_eq!(rt; link.take(&mut into), Ok(1));
     assert_eq!(rt; put_all(&mut link, b"mno"), Ok(()));
+    assert_eq!(rt; link.flush(), Ok(()));
     assert_eq!(rt; link.written(), b"mno".as_slice());
     Ok(())
 }
@@ -100,5 +102,7 @@ fn the_standard_ends_and_the_clock_of_the_machine_answer(rt: HostRuntime) -> Res
     assert!(rt; out.flush().is_ok());
     let mut clock = RealClock::of(&rt);
     assert!(rt; clock.now() > 1_700_000_000);
+    let mut twin = clock.twin(rt.alloc())?;
+    assert!(rt; twin.now() > 1_700_000_000);
     Ok(())
 }
