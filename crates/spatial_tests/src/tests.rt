@@ -14,6 +14,9 @@ enum Sketch {
     Along(Place, Place),
     /// A box by its low and its high corner.
     Between(Place, Place),
+    /// The line from the origin to the field's far corner, and that along the last x.
+    Rising,
+    Way,
     Field,
     /// The field with a small hole, and with a large one.
     Gapped,
@@ -24,165 +27,80 @@ enum Sketch {
     Bow,
 }
 
-use Sketch::{Along, At, Between, Bow, Diamond, Field, Gapped, Isle, Pitted, Star};
+use Sketch::{Along, At, Between, Bow, Diamond, Field, Gapped, Isle, Pitted, Rising, Star, Way};
 
 /// Two shapes, and whether they share a position.
 static ROWS: [(&str, Sketch, Sketch, bool); 51] = [
-    (
-        "crossing",
-        Along((0, 0), (10, 10)),
-        Along((0, 10), (10, 0)),
-        true,
-    ),
-    (
-        "end on end",
-        Along((0, 0), (10, 10)),
-        Along((10, 10), (19, 0)),
-        true,
-    ),
-    (
-        "end on side",
-        Along((0, 0), (10, 10)),
-        Along((5, 5), (5, 9)),
-        true,
-    ),
-    (
-        "collinear, apart",
-        Along((0, 0), (10, 10)),
-        Along((11, 11), (19, 19)),
-        false,
-    ),
+    ("crossing", Rising, Along((0, 10), (10, 0)), true),
+    ("end on end", Rising, Along((10, 10), (19, 0)), true),
+    ("end on side", Rising, Along((5, 5), (5, 9)), true),
+    ("collinear, apart", Rising, Along((11, 11), (19, 19)), false),
     (
         "collinear, end on end",
-        Along((0, 0), (10, 10)),
+        Rising,
         Along((10, 10), (19, 19)),
         true,
     ),
-    (
-        "overlapping",
-        Along((0, 0), (10, 10)),
-        Along((5, 5), (19, 19)),
-        true,
-    ),
-    (
-        "overlapping whole",
-        Along((0, 0), (10, 10)),
-        Along((3, 3), (5, 5)),
-        true,
-    ),
-    (
-        "parallel",
-        Along((0, 0), (10, 10)),
-        Along((0, 1), (9, 10)),
-        false,
-    ),
-    (
-        "bounds meet alone",
-        Along((0, 0), (10, 10)),
-        Along((6, 5), (10, 0)),
-        false,
-    ),
-    (
-        "disjoint",
-        Along((0, 0), (10, 10)),
-        Along((20, 0), (30, 10)),
-        false,
-    ),
-    ("point on a line", Along((0, 0), (10, 10)), At((4, 4)), true),
-    (
-        "point beside a line",
-        Along((0, 0), (10, 10)),
-        At((4, 5)),
-        false,
-    ),
-    (
-        "point beyond a line",
-        Along((0, 0), (10, 10)),
-        At((11, 11)),
-        false,
-    ),
+    ("overlapping", Rising, Along((5, 5), (19, 19)), true),
+    ("overlapping whole", Rising, Along((3, 3), (5, 5)), true),
+    ("parallel", Rising, Along((0, 1), (9, 10)), false),
+    ("bounds meet alone", Rising, Along((6, 5), (10, 0)), false),
+    ("disjoint", Rising, Along((20, 0), (30, 10)), false),
+    ("point on a line", Rising, At((4, 4)), true),
+    ("point beside a line", Rising, At((4, 5)), false),
+    ("point beyond a line", Rising, At((11, 11)), false),
     ("same point", At((4, 4)), At((4, 4)), true),
     ("two points", At((4, 4)), At((4, 5)), false),
     (
-        "crossing at the far edges",
+        "far edges, crossing",
         Along((-FAR, -FAR), (FAR, FAR)),
         Along((-FAR, FAR), (FAR, -FAR)),
         true,
     ),
     (
-        "half a unit off",
+        "far edges, near miss",
         Along((-FAR, -FAR), (FAR, FAR - 1)),
         At((0, 0)),
         false,
     ),
-    (
-        "way, box on it",
-        Along((FAR, 0), (FAR, FAR)),
-        Between((FAR, 5), (FAR, 5)),
-        true,
-    ),
+    ("way, box on it", Way, Between((FAR, 5), (FAR, 5)), true),
     (
         "way, box beside it",
-        Along((FAR, 0), (FAR, FAR)),
+        Way,
         Between((FAR - 1, 5), (FAR - 1, 5)),
         false,
     ),
     (
         "way, box over all",
-        Along((FAR, 0), (FAR, FAR)),
+        Way,
         Between((-FAR, -FAR), (FAR, FAR)),
         true,
     ),
+    ("box at a corner", Gapped, Between((10, 10), (12, 12)), true),
+    ("box in a hole", Gapped, Between((3, 3), (3, 3)), false),
+    ("box of a hole", Gapped, Between((2, 2), (4, 4)), true),
     (
-        "field, box at its corner",
-        Gapped,
-        Between((10, 10), (12, 12)),
-        true,
-    ),
-    (
-        "field, box in its hole",
-        Gapped,
-        Between((3, 3), (3, 3)),
-        false,
-    ),
-    (
-        "field, box of its hole",
-        Gapped,
-        Between((2, 2), (4, 4)),
-        true,
-    ),
-    (
-        "field, box round it",
+        "box round a field",
         Gapped,
         Between((-5, -5), (20, 20)),
         true,
     ),
+    ("box within a field", Gapped, Between((5, 5), (6, 6)), true),
     (
-        "field, box within it",
-        Gapped,
-        Between((5, 5), (6, 6)),
-        true,
-    ),
-    (
-        "field, box beside it",
+        "box beside a field",
         Gapped,
         Between((11, 0), (12, 10)),
         false,
     ),
-    ("field, point in its hole", Gapped, At((3, 3)), false),
-    ("field, point on its hole's ring", Gapped, At((2, 3)), true),
-    ("field, its hole's corner", Gapped, At((4, 4)), true),
-    (
-        "field, its hole's corners on the ray",
-        Gapped,
-        At((1, 2)),
-        true,
-    ),
-    ("field, point past the hole", Gapped, At((5, 3)), true),
-    ("field, its corner", Gapped, At((10, 10)), true),
-    ("field, on its edge", Gapped, At((5, 0)), true),
-    ("field, outside by x", Gapped, At((11, 5)), false),
-    ("field, outside by the ray", Gapped, At((-1, 2)), false),
+    ("in a hole", Gapped, At((3, 3)), false),
+    ("on a hole's ring", Gapped, At((2, 3)), true),
+    ("hole's corner", Gapped, At((4, 4)), true),
+    ("hole's corners on ray", Gapped, At((1, 2)), true),
+    ("past a hole", Gapped, At((5, 3)), true),
+    ("field's corner", Gapped, At((10, 10)), true),
+    ("field's edge", Gapped, At((5, 0)), true),
+    ("beside the field", Gapped, At((11, 5)), false),
+    ("before the field", Gapped, At((-1, 2)), false),
     (
         "line ends on a corner",
         Field,
@@ -200,15 +118,10 @@ static ROWS: [(&str, Sketch, Sketch, bool); 51] = [
     ("polygon in a hole", Pitted, Isle, false),
     ("point in a hole", Pitted, At((5, 5)), false),
     ("line to a hole's ring", Pitted, Along((5, 5), (8, 5)), true),
-    (
-        "diamond, two corners on the ray",
-        Diamond,
-        At((-1, 0)),
-        false,
-    ),
-    ("diamond, one corner on the ray", Diamond, At((5, 0)), true),
-    ("diamond, its top on the ray", Diamond, At((-1, 5)), false),
-    ("diamond, its foot on the ray", Diamond, At((-1, -5)), false),
+    ("two corners on ray", Diamond, At((-1, 0)), false),
+    ("one corner on ray", Diamond, At((5, 0)), true),
+    ("top on ray", Diamond, At((-1, 5)), false),
+    ("foot on ray", Diamond, At((-1, -5)), false),
     ("star, its middle", Star, At((0, 0)), false),
     ("star, its top", Star, At((0, 8)), true),
     ("bow, within", Bow, At((9, 5)), true),
@@ -228,6 +141,15 @@ fn path(alloc: Global, places: &[Place]) -> Result<Vec<Pos>, AllocError> {
         }
     }
     Ok(all)
+}
+
+/// The line between two places.
+fn line(alloc: Global, from: Place, to: Place) -> Result<Option<Geometry>, AllocError> {
+    Ok(
+        Line::new(path(alloc, &[from, to])?)
+            .ok()
+            .map(|line| Geometry::Along(line)),
+    )
 }
 
 /// The polygon of a shell and, if it has places, a hole.
@@ -260,11 +182,9 @@ fn sides(low: Place, high: Place) -> [Place; 5] {
 fn shape(alloc: Global, sketch: Sketch) -> Result<Option<Geometry>, AllocError> {
     match sketch {
         At(place) => Ok(at(place).map(|p| Geometry::At(p))),
-        Along(from, to) => Ok(
-            Line::new(path(alloc, &[from, to])?)
-                .ok()
-                .map(|line| Geometry::Along(line)),
-        ),
+        Along(from, to) => line(alloc, from, to),
+        Rising => line(alloc, (0, 0), (10, 10)),
+        Way => line(alloc, (FAR, 0), (FAR, FAR)),
         Between(low, high) => polygon(alloc, &sides(low, high), &[]),
         Field => polygon(alloc, &square(0, 10), &[]),
         Gapped => polygon(alloc, &square(0, 10), &square(2, 4)),
