@@ -66,7 +66,7 @@ impl Line {
     }
 
     /// An equal line. `AllocError`: there is no memory for it.
-    pub fn copy(&self, alloc: Global) -> Result<Line, AllocError>
+    pub(crate) fn copy(&self, alloc: Global) -> Result<Line, AllocError>
         ensures { IfOk result (λ l. l ≡ self.now) }
     {
         Ok(Line {

@@ -90,7 +90,7 @@ impl Ring {
     }
 
     /// An equal ring. `AllocError`: there is no memory for it.
-    pub fn copy(&self, alloc: Global) -> Result<Ring, AllocError>
+    pub(crate) fn copy(&self, alloc: Global) -> Result<Ring, AllocError>
         ensures { IfOk result (λ r. r ≡ self.now) }
     {
         Ok(Ring {
