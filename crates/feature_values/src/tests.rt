@@ -148,10 +148,10 @@ const KINDS: [ValueKind; 6] = [
 ];
 
 // The corners of a square, the first again at the end.
-fn corners(alloc: Global) -> Mem<Vec<Pos>> {
+fn corners(alloc: Global) -> Result<Vec<Pos>, Fail> {
     let mut all = Vec::new(alloc);
     for (x, y) in [(0, 0), (9, 0), (9, 9), (0, 9), (0, 0)] {
-        all.push(Pos { x, y })?;
+        all.push(Pos::new(x, y)?)?;
     }
     Ok(all)
 }
