@@ -6,13 +6,14 @@ use Rattle.std.proofs.Math.Seq.{drop-append-add}
 use Rattle.http_session.specs.declared.message.Ending.{Ending}
 use Rattle.http_session.specs.declared.message.Ending.TheVariants as ending
 use Rattle.http_session.specs.declared.plan.Body.TheVariants as way
-use Rattle.http_session.specs.Chunks.{Stop, whole, wrong, large, part, goes, stops, turn_of, ReadsChunks, sent_limit}
+use Rattle.http_session.specs.Chunks.{Stop, whole, wrong, large, part, goes, stops, IsTurnOf, ReadsChunks, sent_limit}
 use Rattle.http_session.specs.Lines.{line_of}
 use Rattle.http_session.specs.Frames.{content, no_content, chunked_body, IsBody}
 use Rattle.http_session.specs.Reading.{after_buffer}
-use Rattle.http_session.specs.Spots.{Spot, window, Moves, stop_ending, Alike, IsBroken}
+use Rattle.http_session.specs.Spots.{Spot, window, Moves, stop_ending, Alike, IsBroken, turn_of}
 use Rattle.http_session.proofs.LineLaws.{line_is}
 use Rattle.http_session.proofs.Turns.{stop_same}
+use Rattle.http_session.proofs.TrailerLaws.{turn_is}
 
 -- what is read after the chunks so far is read from the first on
 abbrev pub Follows : Option (List ℕ) → List ℕ → Option (List ℕ) → Type 0
@@ -24,7 +25,7 @@ follows_start first found none = λ n stop h. (n, subst (λ (x : List ℕ). IfSo
 chunk_before : (n : ℕ) (stop : Stop) (found more : List ℕ) (now next : Option (List ℕ)) → Alike (λ w. turn_of found (line_of w)) now (goes more) next → IfSome next (λ w. ReadsChunks n more w stop) → IfSome now (λ w. ReadsChunks (suc n) found w stop)
 chunk_before n stop found more None next e h = tt
 chunk_before n stop found more (Some w) None e h = absurd cc
-chunk_before n stop found more (Some w) (Some v) e h = let k : turn_of found (line_of w) ≡ goes more v = cc in (line_of w, line_is w, more, v, k, h)
+chunk_before n stop found more (Some w) (Some v) e h = let k : turn_of found (line_of w) ≡ goes more v = cc in (line_of w, line_is w, more, v, subst (IsTurnOf found (line_of w)) k (turn_is found (line_of w)), h)
 
 pub follows_more : (first now next : Option (List ℕ)) (found more : List ℕ) → Follows first found now → Alike (λ w. turn_of found (line_of w)) now (goes more) next → Follows first more next
 follows_more first now next found more f e = λ n stop h. f (suc n) stop (chunk_before n stop found more now next e h)
@@ -44,7 +45,7 @@ whole_body so_far found front k (Some b) (Some x) e c f (Some y) more j e' c' al
     let all : b ≡ front ++ x = cc in
     let tail : x ≡ more ++ y = cc in
     let last : turn_of so_far (line_of (take k x)) ≡ stops (whole found (take j y)) = cc in
-    let reads = f zero (whole found (take j y)) (line_of (take k x), line_is (take k x), last) in
+    let reads = f zero (whole found (take j y)) (line_of (take k x), line_is (take k x), subst (IsTurnOf so_far (line_of (take k x))) last (turn_is so_far (line_of (take k x)))) in
     let past : drop sent_limit b ≡ drop j y = past_is sent_limit k j front more x y b c c' all tail in
     (y, refl, (reads.0, whole found (take j y), reads.1, ap (content found) (sym (ap (λ (l : List ℕ). take j y ++ l) past ∙ take-append-drop j y))))
 
@@ -70,7 +71,7 @@ ended_body found e front k None now bytes c f h = tt
 ended_body found e front k (Some b) None bytes c f h = absurd cc
 ended_body found e front k (Some b) (Some x) bytes c f h =
     let all : b ≡ front ++ x = cc in
-    let reads = f zero h.0 (line_of (take k x), line_is (take k x), h.1) in
+    let reads = f zero h.0 (line_of (take k x), line_is (take k x), subst (IsTurnOf found (line_of (take k x))) h.1 (turn_is found (line_of (take k x)))) in
     let is : e ≡ stop_ending h.0 sent_limit b = h.2 ∙ sym (stop_same h.0 front x sent_limit k c) ∙ ap (stop_ending h.0 sent_limit) (sym all) in
     (reads.0, h.0, reads.1, broken_is h.0 e b is h.3)
 

@@ -11,10 +11,10 @@ use Rattle.http_session.specs.declared.chunks.Begun.{Begun}
 use Rattle.http_session.specs.declared.chunks.Begun.TheVariants as begun
 use Rattle.http_session.specs.declared.chunks.ChunkRead.{ChunkRead}
 use Rattle.http_session.specs.declared.chunks.ChunkRead.TheVariants as chunkread
-use Rattle.http_session.specs.Chunks.{line, no_line, part_line, Stop, whole, wrong, large, part, Turn, stops, is_empty_line, begun_more, after_trailer, after_return, after_data, chunk_of, turn_of}
+use Rattle.http_session.specs.Chunks.{line, no_line, part_line, Stop, whole, wrong, large, part, Turn, stops, after_return, after_data, chunk_of}
 use Rattle.http_session.specs.Lines.{line_of}
 use Rattle.http_session.specs.Reading.{after_buffer, ahead, Moved}
-use Rattle.http_session.specs.Spots.{Spot, spot, window, Moves, part_ending, stop_ending, Alike, IsBroken, IsTurn, IsCopied, trailer_step}
+use Rattle.http_session.specs.Spots.{Spot, spot, window, Moves, part_ending, stop_ending, Alike, IsBroken, IsTurn, IsCopied, is_empty_line, begun_more, after_trailer, trailer_step, turn_of}
 use Rattle.http_session.proofs.Spots.{moves_on, part_same, window_after, after_none, after_twice}
 
 pub alike_byte : {X : Type 0} (f g : List ℕ → X) (b : ℕ) (v w : Option (List ℕ)) → v ≡ after_buffer (b ∷ []) w → ((x : List ℕ) → f (b ∷ x) ≡ g x) → Alike f v g w

@@ -1,5 +1,5 @@
 -- Where the reader of chunks is: for the reader.
-use Rattle.std.specs.Prelude.{ℕ, ◌≡◌, ◌+◌, ◌<◌, ◌≤◌, ◌==◌, List, [], ◌∷◌, ◌++◌, length, take, drop, nat_lt, if◌then◌else◌, Option, Some, None, option_map, IfSome}
+use Rattle.std.specs.Prelude.{ℕ, ◌≡◌, ◌+◌, ◌<◌, ◌≤◌, ◌==◌, List, [], ◌∷◌, ◌++◌, length, take, drop, nat_lt, if◌then◌else◌, Bool, true, false, Option, Some, None, option_map, IfSome}
 use Rattle.wfs_ends.specs.Ends.{Shown, Rose}
 use Rattle.http_session.specs.declared.message.Ending.{Ending}
 use Rattle.http_session.specs.declared.message.Ending.TheVariants as ending
@@ -11,7 +11,7 @@ use Rattle.http_session.specs.declared.chunks.LineRead.{LineRead}
 use Rattle.http_session.specs.declared.chunks.LineRead.TheVariants as lineread
 use Rattle.http_session.specs.declared.chunks.ChunkRead.{ChunkRead}
 use Rattle.http_session.specs.declared.chunks.ChunkRead.TheVariants as chunkread
-use Rattle.http_session.specs.Chunks.{is_empty_line, begun_more, Line, line, no_line, part_line, Stop, whole, wrong, large, part, Turn, goes, stops}
+use Rattle.http_session.specs.Chunks.{Line, line, no_line, part_line, Stop, whole, wrong, large, part, Turn, goes, stops, chunk_of}
 use Rattle.http_session.specs.Reading.{after_buffer, ahead}
 
 -- how many bytes may still be used, and the bytes that are still to be read, where the link tells
@@ -77,6 +77,30 @@ IsTurn f (chunkread.Ended e) found before a after c =
     IfSome a.ahead (λ bytes. (stop : Stop) × (f (take a.allowed bytes) ≡ stops stop) × (e ≡ stop_ending stop a.allowed bytes) × IsBroken stop)
 IsTurn f chunkread.Fault found before a after c = Rose before.failed_takes after.failed_takes
 IsTurn f chunkread.OutOfMemory found before a after c = Unit {0}
+
+-- what has come of a trailer line: nothing, a CR alone, or text
+abbrev pub begun_more : Begun → ℕ → Begun
+begun_more begun.Nothing b = if b == 13 then begun.Return else begun.Text
+begun_more begun.Return b = begun.Text
+begun_more begun.Text b = begun.Text
+
+abbrev pub is_empty_line : Begun → Bool
+is_empty_line begun.Nothing = true
+is_empty_line begun.Return = true
+is_empty_line begun.Text = false
+
+-- trailer lines are passed over up to the first that is empty
+unfoldable pub after_trailer : List ℕ → Begun → List ℕ → Stop
+after_trailer content so_far [] = part
+after_trailer content so_far (b ∷ bytes) =
+    if b == 10 then if is_empty_line so_far then whole content bytes else after_trailer content begun.Nothing bytes
+    else after_trailer content (begun_more so_far b) bytes
+
+-- the chunk line, and what it begins; a size of 0 begins the trailer
+abbrev pub turn_of : List ℕ → Line → Turn
+turn_of content (line size rest) = if size == 0 then stops (after_trailer content begun.Nothing rest) else chunk_of content size rest
+turn_of content no_line = stops wrong
+turn_of content part_line = stops part
 
 -- one more byte of a trailer line, or the end of the trailer
 abbrev pub trailer_step : Begun → ℕ → Option Begun

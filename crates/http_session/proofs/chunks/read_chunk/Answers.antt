@@ -1,5 +1,6 @@
 use Rattle.std.proofs.Common.{◌∙◌, ap, ℕ}
-use Rattle.http_session.specs.Chunks.{line, turn_of, stops, after_trailer, chunk_of}
+use Rattle.http_session.specs.Chunks.{line, stops, chunk_of}
+use Rattle.http_session.specs.Spots.{turn_of, after_trailer}
 use Rattle.http_session.specs.declared.chunks.Begun.TheVariants as begun
 use Rattle.http_session.specs.Lines.{line_of}
 use Rattle.http_session.proofs.Turns.{turn_back, alike_then, alike_by, turn_chunk}

@@ -1,5 +1,6 @@
 use Rattle.std.proofs.Common.{◌∙◌, arith}
-use Rattle.http_session.specs.Chunks.{stops, whole, after_trailer}
+use Rattle.http_session.specs.Chunks.{stops, whole}
+use Rattle.http_session.specs.Spots.{after_trailer}
 use Rattle.http_session.specs.declared.chunks.Begun.TheVariants as begun
 use Rattle.http_session.proofs.Spots.{moves_on}
 use Rattle.http_session.proofs.Bodies.{keeps_on}

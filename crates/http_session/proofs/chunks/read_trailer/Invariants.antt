@@ -1,8 +1,8 @@
 use Rattle.std.proofs.Common.{List, ℕ}
 use Rattle.wfs_ends.specs.Ends.{KeepsGiven}
 use Rattle.http_session.specs.declared.chunks.Begun.TheVariants as begun
-use Rattle.http_session.specs.Chunks.{stops, after_trailer}
-use Rattle.http_session.specs.Spots.{spot, window, Moves, Alike}
+use Rattle.http_session.specs.Chunks.{stops}
+use Rattle.http_session.specs.Spots.{spot, window, Moves, Alike, after_trailer}
 use Rattle.http_session.proofs.chunks.read_trailer.Given as goal
 
 abbrev pub invariant-loop-byte : goal.invariant-loop-byte
