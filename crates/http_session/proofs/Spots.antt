@@ -10,7 +10,8 @@ use Rattle.http_session.specs.declared.line.LineState.{LineState}
 use Rattle.http_session.specs.declared.line.LineStep.TheVariants as step
 use Rattle.http_session.specs.Chunks.{line, no_line, part_line}
 use Rattle.http_session.specs.Lines.{line_step, line_then, line_from, line_of}
-use Rattle.http_session.specs.Reading.{after_buffer}
+use Rattle.wfs_ends.specs.Ends.{Shown, KeepsGiven, Rose}
+use Rattle.http_session.specs.Reading.{after_buffer, ahead, Moved, Reached, IsFault}
 use Rattle.http_session.specs.Spots.{Spot, window, Moves, part_ending, IsOver, Alike}
 
 -- ---- moves
@@ -53,6 +54,23 @@ byte_moves k bs (x ∷ held) new left old some long same skip e =
       count = omega arith;
     } in
     (window_after _ _ m, m, omega arith)
+
+-- ---- where a fault comes
+
+pub reached_on : (a b : Spot) (u : Shown) → Moves a b → Reached b.ahead u → Reached a.ahead u
+reached_on a b u m r = record { taken = m.front ++ r.taken; parts = m.bytes ∙ ap (after_buffer m.front) r.parts ∙ after_twice m.front r.taken u.left }
+
+pub reached_held : (held : List ℕ) (u : Shown) → Reached (ahead held u) u
+reached_held held u = record { taken = held; parts = refl }
+
+pub reached_moved : (old held : List ℕ) (s u : Shown) → Moved old s held u → Reached (ahead old s) u
+reached_moved old held s u m = record { taken = held; parts = sym m.same }
+
+pub fault_on : (a b : Spot) (s t u : Shown) → Moves a b → KeepsGiven s t → IsFault b.ahead t u → IsFault a.ahead s u
+fault_on a b s t u m k f = record { reached = reached_on a b u m f.reached; cause = let c = f.cause in omega (arith, k.takes, c) }
+
+pub fault_moved : (old held : List ℕ) (s u : Shown) → Moved old s held u → Rose s.failed_takes u.failed_takes → IsFault (ahead old s) s u
+fault_moved old held s u m c = record { reached = reached_moved old held s u m; cause = c }
 
 -- ---- what holds at a later spot
 

@@ -15,7 +15,7 @@ use Rattle.http_session.specs.Chunks.{line, no_line, part_line, Stop, whole, wro
 use Rattle.http_session.specs.Lines.{line_of}
 use Rattle.http_session.specs.Reading.{after_buffer, ahead, Moved}
 use Rattle.http_session.specs.Spots.{Spot, spot, window, Moves, part_ending, stop_ending, Alike, IsBroken, IsTurn, IsCopied, is_empty_line, begun_more, after_trailer, trailer_step, turn_of}
-use Rattle.http_session.proofs.Spots.{moves_on, part_same, window_after, after_none, after_twice}
+use Rattle.http_session.proofs.Spots.{moves_on, fault_on, reached_on, part_same, window_after, after_none, after_twice}
 
 pub alike_byte : {X : Type 0} (f g : List ℕ → X) (b : ℕ) (v w : Option (List ℕ)) → v ≡ after_buffer (b ∷ []) w → ((x : List ℕ) → f (b ∷ x) ≡ g x) → Alike f v g w
 alike_byte {X} f g b v None e h = ap (option_map f) e
@@ -53,8 +53,8 @@ pub turn_back : (f g : List ℕ → Turn) (r : ChunkRead) (found : List ℕ) (s 
 turn_back f g chunkread.More found s t u a b c keeps m alike h = (alike ∙ h.0, moves_on a b c m h.1, omega (arith, m.count, h.2))
 turn_back f g chunkread.Whole found s t u a b c keeps m alike h = (alike ∙ h.0, moves_on a b c m h.1)
 turn_back f g (chunkread.Ended e) found s t u a b c keeps m alike h = ended_back f g e m.front a.allowed b.allowed a.ahead b.ahead m.bytes m.count alike h
-turn_back f g chunkread.Fault found s t u a b c keeps m alike h = omega (arith, keeps.takes, h)
-turn_back f g chunkread.OutOfMemory found s t u a b c keeps m alike h = tt
+turn_back f g chunkread.Fault found s t u a b c keeps m alike h = fault_on a b s t u m keeps h
+turn_back f g chunkread.OutOfMemory found s t u a b c keeps m alike h = reached_on a b u m h
 
 pub wrong_at : (f : List ℕ → Turn) (k : ℕ) (old w : Option (List ℕ)) → Alike f (option_map (take k) old) (λ x. stops wrong) w
     → IfSome old (λ bytes. (stop : Stop) × (f (take k bytes) ≡ stops stop) × (ending.BadHead ≡ stop_ending stop k bytes) × IsBroken stop)

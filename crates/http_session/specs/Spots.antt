@@ -1,6 +1,6 @@
 -- Where the reader of chunks is: for the reader.
 use Rattle.std.specs.Prelude.{ℕ, ◌≡◌, ◌+◌, ◌<◌, ◌≤◌, ◌==◌, List, [], ◌∷◌, ◌++◌, length, take, drop, nat_lt, if◌then◌else◌, Bool, true, false, Option, Some, None, option_map, IfSome}
-use Rattle.wfs_ends.specs.Ends.{Shown, Rose}
+use Rattle.wfs_ends.specs.Ends.{Shown}
 use Rattle.http_session.specs.declared.message.Ending.{Ending}
 use Rattle.http_session.specs.declared.message.Ending.TheVariants as ending
 use Rattle.http_session.specs.declared.spot.Byte.{Byte}
@@ -12,7 +12,7 @@ use Rattle.http_session.specs.declared.chunks.LineRead.TheVariants as lineread
 use Rattle.http_session.specs.declared.chunks.ChunkRead.{ChunkRead}
 use Rattle.http_session.specs.declared.chunks.ChunkRead.TheVariants as chunkread
 use Rattle.http_session.specs.Chunks.{Line, line, no_line, part_line, Stop, whole, wrong, large, part, Turn, goes, stops, chunk_of}
-use Rattle.http_session.specs.Reading.{after_buffer, ahead}
+use Rattle.http_session.specs.Reading.{after_buffer, ahead, Reached, IsFault}
 
 -- how many bytes may still be used, and the bytes that are still to be read, where the link tells
 pub record Spot : Type 0 where
@@ -50,7 +50,7 @@ IsOver a e = IfSome a.ahead (λ bytes. (take a.allowed bytes ≡ []) × (e ≡ p
 abbrev pub IsByte : Byte → Shown → Spot → Shown → Spot → Type 0
 IsByte (byte.Next b) before a after c = (window a ≡ after_buffer (b ∷ []) (window c)) × Moves a c × (a.allowed ≡ c.allowed + 1)
 IsByte (byte.Ended e) before a after c = IsOver a e
-IsByte byte.Fault before a after c = Rose before.failed_takes after.failed_takes
+IsByte byte.Fault before a after c = IsFault a.ahead before after
 
 -- f at one window is g at another
 abbrev pub Alike : {X : Type 0} → (List ℕ → X) → Option (List ℕ) → (List ℕ → X) → Option (List ℕ) → Type 0
@@ -60,7 +60,7 @@ abbrev pub IsLineRead : (List ℕ → Line) → LineRead → Shown → Spot → 
 IsLineRead f (lineread.Line size) before a after c = Alike f (window a) (line size) (window c) × Moves a c
 IsLineRead f lineread.Bad before a after c = IfSome (window a) (λ w. f w ≡ no_line)
 IsLineRead f (lineread.Ended e) before a after c = IfSome a.ahead (λ bytes. (f (take a.allowed bytes) ≡ part_line) × (e ≡ part_ending a.allowed bytes))
-IsLineRead f lineread.Fault before a after c = Rose before.failed_takes after.failed_takes
+IsLineRead f lineread.Fault before a after c = IsFault a.ahead before after
 
 -- an end that leaves no content
 abbrev pub IsBroken : Stop → Type 0
@@ -75,8 +75,8 @@ IsTurn f chunkread.More found before a after c = Alike f (window a) (goes found)
 IsTurn f chunkread.Whole found before a after c = Alike f (window a) (λ w. stops (whole found w)) (window c) × Moves a c
 IsTurn f (chunkread.Ended e) found before a after c =
     IfSome a.ahead (λ bytes. (stop : Stop) × (f (take a.allowed bytes) ≡ stops stop) × (e ≡ stop_ending stop a.allowed bytes) × IsBroken stop)
-IsTurn f chunkread.Fault found before a after c = Rose before.failed_takes after.failed_takes
-IsTurn f chunkread.OutOfMemory found before a after c = Unit {0}
+IsTurn f chunkread.Fault found before a after c = IsFault a.ahead before after
+IsTurn f chunkread.OutOfMemory found before a after c = Reached a.ahead after
 
 -- what has come of a trailer line: nothing, a CR alone, or text
 abbrev pub begun_more : Begun → ℕ → Begun

@@ -1,5 +1,5 @@
 use Rattle.std.proofs.Common.{arith, refl, ap, length}
-use Rattle.http_session.proofs.Spots.{moves_on, moves_stay}
+use Rattle.http_session.proofs.Spots.{moves_on, moves_stay, fault_on, reached_on}
 use Rattle.http_session.proofs.Bodies.{keeps_on, keeps_stay}
 use Rattle.http_session.proofs.Follows.{follows_start, follows_more, whole_chunks, ended_chunks}
 use Rattle.http_session.proofs.chunks.read_chunked.Goals as goal
@@ -23,3 +23,9 @@ returns-in-Whole-clause-read g c = whole_chunks c.loop-content.content.items _ _
 
 pub returns-in-Ended-clause-read : goal.returns-in-Ended-clause-read
 returns-in-Ended-clause-read g c = ended_chunks c.loop-content.content.items _ _ _ refl c.loop-content.invariant.1 c.loop-content.invariant.2 c.in-Ended.ensures.turn
+
+pub returns-in-Fault-clause-read : goal.returns-in-Fault-clause-read
+returns-in-Fault-clause-read g c = fault_on _ _ _ _ _ c.loop-content.invariant.1 c.loop-content.invariant.3 c.in-Fault.ensures.turn
+
+pub returns-in-OutOfMemory-clause-read : goal.returns-in-OutOfMemory-clause-read
+returns-in-OutOfMemory-clause-read g c = reached_on _ _ _ c.loop-content.invariant.1 c.in-OutOfMemory.ensures.turn

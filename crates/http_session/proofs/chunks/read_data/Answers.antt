@@ -1,6 +1,6 @@
 use Rattle.std.proofs.Common.{◌≡◌, ◌∙◌, arith, ap, ℕ}
 use Rattle.http_session.specs.Chunks.{chunk_of, after_data}
-use Rattle.http_session.proofs.Spots.{moves_on}
+use Rattle.http_session.proofs.Spots.{moves_on, fault_on, fault_moved, reached_on, reached_held}
 use Rattle.http_session.proofs.Bodies.{keeps_on}
 use Rattle.http_session.proofs.Turns.{turn_back, ended_from, over_at, over_end, over_limit, large_at, held_moves, held_alike, alike_by, chunk_part, chunk_done, copied_moves, copied_alike, copied_within}
 use Rattle.http_session.proofs.chunks.read_data.Goals as goal
@@ -40,3 +40,9 @@ returns-clause-turn g c =
     turn_back (chunk_of c.args.content.now.items c.args.size) (after_data c.loop-left.content.items) _ c.loop-left.content.items _ _ _ _ _ _ c.loop-left.invariant.3 c.loop-left.invariant.1
     (c.loop-left.invariant.2 ∙ alike_by (chunk_of c.loop-left.content.items c.loop-left.left) (after_data c.loop-left.content.items) _ (λ x. ap (λ (n : ℕ). chunk_of c.loop-left.content.items n x) none ∙ chunk_done c.loop-left.content.items x c.loop-left.invariant.0))
     (c.read_end.ensures.turn c.loop-left.content.items)
+
+pub returns-in-Fault-clause-turn : goal.returns-in-Fault-clause-turn
+returns-in-Fault-clause-turn g c = fault_on _ _ _ _ _ c.loop-left.invariant.1 c.loop-left.invariant.3 (fault_moved _ _ _ _ c.hold_byte.ensures.moved c.in-Fault.ensures.held)
+
+pub returns-in-None-clause-turn : goal.returns-in-None-clause-turn
+returns-in-None-clause-turn g c = reached_on _ _ _ (moves_on _ _ _ c.loop-left.invariant.1 (held_moves _ _ _ _ _ c.hold_byte.ensures.moved)) (reached_held _ _)

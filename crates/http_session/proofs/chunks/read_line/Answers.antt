@@ -1,5 +1,5 @@
 use Rattle.std.proofs.Common.{arith}
-use Rattle.http_session.proofs.Spots.{moves_on, line_goes, line_ends, line_bad, line_over}
+use Rattle.http_session.proofs.Spots.{moves_on, fault_on, line_goes, line_ends, line_bad, line_over}
 use Rattle.http_session.proofs.Bodies.{keeps_on}
 use Rattle.http_session.proofs.chunks.read_line.Goals as goal
 
@@ -25,3 +25,6 @@ returns-in-Bad-clause-line g c = line_bad _ _ _ _ _ c.loop-byte.invariant.2 c.in
 
 pub returns-in-Ended-clause-line : goal.returns-in-Ended-clause-line
 returns-in-Ended-clause-line g c = line_over _ _ _ _ c.loop-byte.invariant.1 c.loop-byte.invariant.2 c.in-Ended.ensures.byte
+
+pub returns-in-Fault-clause-line : goal.returns-in-Fault-clause-line
+returns-in-Fault-clause-line g c = fault_on _ _ _ _ _ c.loop-byte.invariant.1 c.loop-byte.invariant.3 c.in-Fault.ensures.byte

@@ -2,7 +2,7 @@ use Rattle.std.proofs.Common.{◌∙◌, arith}
 use Rattle.http_session.specs.Chunks.{stops, whole}
 use Rattle.http_session.specs.Spots.{after_trailer}
 use Rattle.http_session.specs.declared.chunks.Begun.TheVariants as begun
-use Rattle.http_session.proofs.Spots.{moves_on}
+use Rattle.http_session.proofs.Spots.{moves_on, fault_on}
 use Rattle.http_session.proofs.Bodies.{keeps_on}
 use Rattle.http_session.proofs.Turns.{ended_from, over_at, alike_byte, trailer_more, trailer_whole, trailer_none}
 use Rattle.http_session.proofs.chunks.read_trailer.Goals as goal
@@ -27,3 +27,6 @@ pub returns-in-Ended-clause-turn : goal.returns-in-Ended-clause-turn
 returns-in-Ended-clause-turn g c = λ content.
     ended_from (λ w. stops (after_trailer content begun.Nothing w)) (λ w. stops (after_trailer content c.loop-byte.line w)) _ _ _ c.loop-byte.invariant.0 (c.loop-byte.invariant.2 content)
     (over_at (λ w. stops (after_trailer content c.loop-byte.line w)) _ _ _ (trailer_none content c.loop-byte.line) c.in-Ended.ensures.byte)
+
+pub returns-in-Fault-clause-turn : goal.returns-in-Fault-clause-turn
+returns-in-Fault-clause-turn g c = λ content. fault_on _ _ _ _ _ c.loop-byte.invariant.0 c.loop-byte.invariant.1 c.in-Fault.ensures.byte
