@@ -1,9 +1,13 @@
 -- Bodies of a stated length.
-use Rattle.std.proofs.Common.{◌≡◌, ◌≢◌, ℕ, ◌+◌, ◌<◌, ◌≤◌, List, [], ◌++◌, length, take, drop, refl, sym, ap, ap₂, ◌∙◌, arith, append_assoc, Option, Some, None}
+use Rattle.std.proofs.Common.{◌≡◌, ◌≢◌, ℕ, ◌+◌, ◌<◌, ◌≤◌, List, [], ◌++◌, length, take, drop, refl, sym, ap, ap₂, ◌∙◌, arith, append_assoc, Option, Some, None, Bool, true, nat_lt}
 use Rattle.std.specs.Prelude.{IfSome, min}
 use Rattle.std.proofs.lemmas.List.{take_all, drop_all, length-append, length-take, take-append-drop}
 use Rattle.std.proofs.Math.Seq.{take-add}
 use Rattle.wfs_ends.specs.Ends.{Shown, KeepsGiven, Rose, left_after}
+use Rattle.std.proofs.lemmas.Bool.Decides.{nat_tests}
+use Rattle.http_session.specs.declared.message.Ending.TheVariants as ending
+use Rattle.http_session.specs.declared.plan.Body.TheVariants as way
+use Rattle.http_session.specs.Frames.{no_content, IsBody}
 use Rattle.http_session.specs.declared.body.Full.{Full}
 use Rattle.http_session.specs.declared.body.Full.TheVariants as full
 use Rattle.http_session.specs.Reading.{after_buffer, ahead, Reached, IsFault, IsRest, IsFull}
@@ -39,11 +43,14 @@ rest_ended start f (Some l) (Some l') old new inv none le lt len =
 
 -- the link failed before the body was full
 pub rest_fault : (start f : ℕ) (s m u : Shown) (old new : List ℕ) → after_buffer (take start old) s.left ≡ after_buffer (take f new) m.left → u.left ≡ m.left → KeepsGiven s m → Rose m.failed_takes u.failed_takes
-    → IsFault (after_buffer (take start old) s.left) s u
-rest_fault start f s m u old new inv same k c = record {
-  reached = record { taken = take f new; parts = inv ∙ ap (after_buffer (take f new)) (sym same) };
-  cause = omega (arith, k.takes, c);
-}
+    → f < length new → length new ≡ length old → (q : IsFault (after_buffer (take start old) s.left) s u) × (length q.reached.taken < length old)
+rest_fault start f s m u old new inv same k c lt len = (
+  record {
+    reached = record { taken = take f new; parts = inv ∙ ap (after_buffer (take f new)) (sym same) };
+    cause = omega (arith, k.takes, c);
+  },
+  let l = length-take f new in omega (arith, l, lt, len),
+)
 
 -- the buffer was used up, and the rest was read behind it
 pub fill_rest : (r : Full) (b bs used copied filled : List ℕ) (s u : Shown) (held n : ℕ) → bs ≡ b → used ≡ drop held b → take held copied ≡ take held bs → held ≡ min n (length bs) → n ≡ length copied → held ≢ length copied
@@ -63,10 +70,18 @@ fill_rest r b bs used copied filled s u held n same skip front less long more le
     by full.Whole left now h = ap (λ (x : List ℕ). after_buffer x left) (sym whole) ∙ h ∙ ap (after_buffer filled) (after_none now ∙ ap (λ (x : List ℕ). after_buffer x now) (sym none))
     by full.End None now h = tt
     by full.End (Some l) now h = let k = length-append b l in omega (arith, k, h, all, len)
-    by full.Fault left now h = record {
-      reached = record { taken = h.reached.taken; parts = ap (λ (x : List ℕ). after_buffer x left) (sym whole) ∙ h.reached.parts };
-      cause = h.cause;
-    }
+    by full.Fault left now (q, lt) = (
+      record {
+        reached = record { taken = q.reached.taken; parts = ap (λ (x : List ℕ). after_buffer x left) (sym whole) ∙ q.reached.parts };
+        cause = q.cause;
+      },
+      omega (arith, lt, len),
+    )
+
+-- a body of a stated length that is not full where the link fails
+pub sized_fault : (n : ℕ) (body : List ℕ) (o : Option (List ℕ)) (s u : Shown) → length body ≡ n → (q : IsFault o s u) × (length q.reached.taken < length body)
+    → (q : IsFault o s u) × IsBody (way.Sized n) q.reached.taken (no_content ending.Cut)
+sized_fault n body o s u is (q, lt) = let short : nat_lt (length q.reached.taken) n ≡ true = grind (arith, nat_tests, lt, is) in (q, rw short refl)
 
 -- all of a body was in the buffer
 pub fill_whole : (b bs used copied : List ℕ) (left : Option (List ℕ)) (held : ℕ) → bs ≡ b → used ≡ drop held b → held ≡ length copied → take held copied ≡ take held bs → after_buffer b left ≡ after_buffer copied (after_buffer used left)

@@ -1,5 +1,5 @@
 -- What is known of the bytes in the buffer holds of all that are still to be read.
-use Rattle.std.proofs.Common.{◌≡◌, ℕ, ◌+◌, ◌-◌, ◌≤◌, List, [], ◌++◌, length, take, refl, sym, ap, subst, ◌∙◌, arith, append_assoc, append-nil, Option, Some, None}
+use Rattle.std.proofs.Common.{◌≡◌, ℕ, ◌+◌, ◌-◌, ◌<◌, ◌≤◌, List, [], ◌++◌, length, take, refl, sym, ap, subst, ◌∙◌, arith, append_assoc, append-nil, Option, Some, None}
 use Rattle.std.specs.Prelude.{IfSome}
 use Rattle.std.proofs.lemmas.List.{take_all, take_at, length-append}
 use Rattle.std.proofs.Math.Seq.{take-append-add}
@@ -63,4 +63,4 @@ bad_read a b left e le bad = ahead_of (λ k. EndsWithoutHead k ending.BadHead) b
 pub stopped_read : (r : HeadRead) (a b : List ℕ) (headers : List HeaderSpan) (before after : Shown) → a ≡ b → length b ≤ head_limit → Rose before.failed_takes after.failed_takes → IsHeadStopped r a headers → IsHeadRead r b headers before after
 stopped_read (read.Head spans) a b headers before after e le rose h = subst (λ (k : List ℕ). HeadAt k headers spans) e h
 stopped_read (read.Ended e') a b headers before after e le rose h = rw h.0 (bad_read a b after.left e le h.1)
-stopped_read read.Fault a b headers before after e le rose h = (subst IsUndecided e h, rose)
+stopped_read read.Fault a b headers before after e le rose h = (subst IsUndecided e h.0, subst (λ (k : List ℕ). length k < head_limit) e h.1, rose)

@@ -1,5 +1,5 @@
 -- What the reader's steps come to.
-use Rattle.std.proofs.Common.{◌≡◌, inl, inr, ℕ, ◌≤◌, Bool, true, false, List, [], ◌++◌, length, drop, refl, sym, ap, subst, ◌∙◌, arith, append-nil, Option, Some, None}
+use Rattle.std.proofs.Common.{◌≡◌, inl, inr, ℕ, ◌<◌, ◌≤◌, Bool, true, false, List, [], ◌++◌, length, drop, refl, sym, ap, subst, ◌∙◌, arith, append-nil, Option, Some, None}
 use Rattle.std.specs.Prelude.{Ok, Err, IfSome}
 use Rattle.wfs_ends.specs.Ends.{Shown, Rose, KeepsGiven, GivesAll, given_more}
 use Rattle.httparse.specs.Grammar.{print_request, ReadsRequest}
@@ -13,10 +13,12 @@ use Rattle.http_session.specs.declared.message.Next.TheVariants as next
 use Rattle.http_session.specs.declared.plan.Plan.{Plan}
 use Rattle.http_session.specs.declared.start.Start.{Start}
 use Rattle.http_session.specs.Heads.{head, no_head, head_limit, IsUndecided, EndsWithoutHead}
+use Rattle.std.specs.List.{list_all}
+use Rattle.http_session.specs.Cuts.{is_line_byte}
 use Rattle.http_session.specs.Fields.{judged}
 use Rattle.http_session.specs.Frames.{Frame, ended, is_due, BodyFound, content, no_content, framed, IsBody, HasBody, IsFramed, IsNext}
 use Rattle.http_session.specs.Reading.{after_buffer, ahead, Moved, Reached, IsFault, HeadAt}
-use Rattle.http_session.specs.Answers.{Answers, OnlyDue, Written, HasPlan, Awaits, Breaks, IsPlanned, Stays, Reads, ReadsRest, IsBodyNext, IsAsked, interim, next_of}
+use Rattle.http_session.specs.Answers.{Answers, OnlyDue, Written, HasPlan, Awaits, Breaks, IsPlanned, AwaitsBody, Stays, Reads, ReadsRest, IsBodyNext, IsAsked, interim, next_of}
 use Rattle.http_session.proofs.Spots.{after_twice}
 use Rattle.http_session.proofs.Unique.{frames_of_head}
 
@@ -125,8 +127,8 @@ written_by due next.WriteFault s m t g k fault read = absurd (read refl)
 written_by due next.OutOfMemory s m t g k fault read = k.given ∙ g.given
 
 -- where the rest of a message breaks off
-breaks_by : (plan : Plan) (a : Next) (b : List ℕ) (s m t : Shown) → m.left ≡ s.left → (a ≡ next.ReadFault → IsFault (ahead b m) m t) → (a ≡ next.OutOfMemory → Reached (ahead b m) t) → (a ≡ next.WriteFault → ⊥)
-    → Breaks (IsPlanned plan) (IsPlanned plan) plan.due a (ahead b s) t
+breaks_by : (plan : Plan) (a : Next) (b : List ℕ) (s m t : Shown) → m.left ≡ s.left → (a ≡ next.ReadFault → (q : IsFault (ahead b m) m t) × IsBody plan.body q.reached.taken (no_content ending.Cut)) → (a ≡ next.OutOfMemory → Reached (ahead b m) t) → (a ≡ next.WriteFault → ⊥)
+    → Breaks (AwaitsBody plan) (IsPlanned plan) plan.due a (ahead b s) t
 breaks_by plan (next.Message x) b s m t e fault memory read = tt
 breaks_by plan next.End b s m t e fault memory read = tt
 breaks_by plan next.BadHead b s m t e fault memory read = tt
@@ -134,7 +136,7 @@ breaks_by plan next.TooLarge b s m t e fault memory read = tt
 breaks_by plan next.NoLength b s m t e fault memory read = tt
 breaks_by plan next.Coding b s m t e fault memory read = tt
 breaks_by plan next.Cut b s m t e fault memory read = tt
-breaks_by plan next.ReadFault b s m t e fault memory read = (subst (λ left. Reached (after_buffer b left) t) e (fault refl).reached, refl)
+breaks_by plan next.ReadFault b s m t e fault memory read = let f = fault refl in (record { taken = f.0.reached.taken; parts = ap (after_buffer b) (sym e) ∙ f.0.reached.parts }, (f.1, refl))
 breaks_by plan next.WriteFault b s m t e fault memory read = absurd (read refl)
 breaks_by plan next.OutOfMemory b s m t e fault memory read = (subst (λ left. Reached (after_buffer b left) t) e (memory refl), λ yes. sym yes)
 
@@ -145,7 +147,7 @@ pub rest_read : (start : Start) (a : Next) (b b' : List ℕ) (s m t : Shown) →
 rest_read start a b b' s m t g n k = record {
   due = start.plan.due;
   answers = subst (λ left. IfSome (after_buffer b left) (λ bytes. Answers (HasBody start.method start.target start.plan bytes) start.plan.due a (ahead b' t))) g.keeps.left n.answers;
-  written = written_by start.plan.due a s m t g k (λ e. (n.fault e).cause) n.read;
+  written = written_by start.plan.due a s m t g k (λ e. (n.fault e).0.cause) n.read;
   breaks = breaks_by start.plan a b s m t g.keeps.left n.fault n.memory n.read;
   stays = stays_by (interim start.plan.due) s m t g k;
 }
@@ -175,13 +177,21 @@ not_due : (P : List ℕ → Frame → Type 0) (o : Option (List ℕ)) → IfSome
 not_due P None = tt
 not_due P (Some bytes) = λ frame is yes. absurd cc
 
+-- bytes that decide nothing end within a head, or between two messages
+undecided : (bytes : List ℕ) → IsUndecided bytes → length bytes < head_limit → Awaits bytes false
+undecided bytes none short = by (list_all is_line_byte bytes) refl
+  where
+    by : (t : Bool) → list_all is_line_byte bytes ≡ t → Awaits bytes false
+    by true e = inl (no_head ending.End, (none, short, e), refl)
+    by false e = inr (no_head ending.Cut, (none, short, e), refl)
+
 -- the link failed within a head
-pub head_failed : (b c : List ℕ) (s t : Shown) → Moved b s c t → IsUndecided c → Rose s.failed_takes t.failed_takes → Reads b s next.ReadFault c t
-head_failed b c s t m none rose = record {
+pub head_failed : (b c : List ℕ) (s t : Shown) → Moved b s c t → IsUndecided c → length c < head_limit → Rose s.failed_takes t.failed_takes → Reads b s next.ReadFault c t
+head_failed b c s t m none short rose = record {
   due = false;
   answers = not_due IsNext (ahead b s);
   written = (m.keeps.given ∙ given_none s.given, rose);
-  breaks = (record { taken = c; parts = sym m.same }, inl (none, refl));
+  breaks = (record { taken = c; parts = sym m.same }, undecided c none short);
   stays = record { takes = m.keeps.takes; puts = let k = m.keeps.puts in omega (arith, k); place = m.keeps.place };
 }
 
@@ -244,6 +254,9 @@ head_followed start a b c b' headers spans s t at le method target plan skip r =
     planned : (taken : List ℕ) (due : Bool) → due ≡ start.plan.due → HasPlan (print_request at.head ++ taken) due
     planned taken due e = (at.head, taken, ((at.at.reads.0, refl), head_short b headers spans at le), start.plan, plan, e)
 
+    awaits : (taken : List ℕ) (due : Bool) → IsBody start.plan.body taken (no_content ending.Cut) → due ≡ start.plan.due → IsNext (print_request at.head ++ taken) (ended ending.Cut due)
+    awaits taken due is e = (head at.head taken, ((at.at.reads.0, refl), head_short b headers spans at le), same taken (ended ending.Cut due) (no_content ending.Cut, is, ap (ended ending.Cut) e))
+
     reached : (q : Reached (ahead c s) t) → Reached (ahead b s) t
     reached q = record {
       taken = print_request at.head ++ q.taken;
@@ -251,7 +264,7 @@ head_followed start a b c b' headers spans s t at le method target plan skip r =
           ∙ sym (after_twice (print_request at.head) c s.left) ∙ ap (after_buffer (print_request at.head)) q.parts ∙ after_twice (print_request at.head) q.taken t.left;
     }
 
-    broken : (x : Next) → Breaks (IsPlanned start.plan) (IsPlanned start.plan) r.due x (ahead c s) t → Breaks Awaits HasPlan r.due x (ahead b s) t
+    broken : (x : Next) → Breaks (AwaitsBody start.plan) (IsPlanned start.plan) r.due x (ahead c s) t → Breaks Awaits HasPlan r.due x (ahead b s) t
     broken (next.Message m) h = tt
     broken next.End h = tt
     broken next.BadHead h = tt
@@ -259,7 +272,7 @@ head_followed start a b c b' headers spans s t at le method target plan skip r =
     broken next.NoLength h = tt
     broken next.Coding h = tt
     broken next.Cut h = tt
-    broken next.ReadFault h = (reached h.0, inr (planned h.0.taken r.due h.1))
+    broken next.ReadFault h = (reached h.0, inr (awaits h.0.taken r.due h.1.0 h.1.1))
     broken next.WriteFault h = (reached h.0, planned h.0.taken true h.1)
     broken next.OutOfMemory h = (reached h.0, λ yes. planned h.0.taken true (h.1 yes))
 

@@ -102,12 +102,15 @@ from_empty (b ∷ []) bytes e = let k : b ≡ 13 = grind (arith, nat_tests, e) i
 from_empty (b ∷ c ∷ text) bytes e = absurd cc
 
 from_line : (content text bytes : List ℕ) (stop : Stop) → IsTrailerLine text → TrailerFrom content [] bytes stop → TrailerFrom content text (10 ∷ bytes) stop
-from_line content text bytes (whole found rest) is h = (h.0, record {
-  lines = text ∷ h.1.lines;
-  last = h.1.last;
-  are_lines = (is, h.1.are_lines);
-  whole = ap (λ (x : List ℕ). text ++ 10 ∷ x) h.1.whole ∙ sym (regroup text h.1.lines h.1.last rest);
-})
+from_line content text bytes (whole found rest) is h = (
+  h.0,
+  record {
+    lines = text ∷ h.1.lines;
+    last = h.1.last;
+    are_lines = (is, h.1.are_lines);
+    whole = ap (λ (x : List ℕ). text ++ 10 ∷ x) h.1.whole ∙ sym (regroup text h.1.lines h.1.last rest);
+  },
+)
 from_line content text bytes part is h = tt
 from_line content text bytes wrong is h = h
 from_line content text bytes large is h = h

@@ -5,8 +5,8 @@ use Rattle.http_session.specs.declared.message.Ending.{Ending}
 use Rattle.http_session.specs.declared.message.Ending.TheVariants as ending
 use Rattle.http_session.specs.declared.message.Next.{Next}
 use Rattle.http_session.specs.declared.message.Next.TheVariants as next
-use Rattle.http_session.specs.Frames.{Frame, message, ended, is_due, HasBody, IsNext, Sent, Frames}
-use Rattle.http_session.specs.Heads.{head, IsHead, IsUndecided}
+use Rattle.http_session.specs.Frames.{Frame, message, ended, is_due, no_content, IsBody, HasBody, IsNext, Sent, Frames}
+use Rattle.http_session.specs.Heads.{head, IsHead}
 use Rattle.http_session.specs.Reading.{ahead, Reached, IsFault}
 use Rattle.http_session.specs.Fields.{judged}
 use Rattle.http_session.specs.declared.plan.Plan.{Plan}
@@ -69,12 +69,13 @@ Written due next.OutOfMemory before after = after.given ≡ given_more before.gi
 abbrev pub HasPlan : List ℕ → Bool → Type 0
 HasPlan bytes due = (h : RequestHead) × (rest : List ℕ) × IsHead bytes (head h rest) × (plan : Plan) × (judged h ≡ Ok plan) × (due ≡ plan.due)
 
--- the bytes decide nothing yet, and the line is not due; or they hold a head, and its body is awaited
+-- if the input ended here, it would end between two messages or within one
 abbrev pub Awaits : List ℕ → Bool → Type 0
-Awaits bytes due = (IsUndecided bytes × (due ≡ false)) ⊎ HasPlan bytes due
+Awaits bytes due = IsNext bytes (ended ending.End due) ⊎ IsNext bytes (ended ending.Cut due)
 
 -- What was taken by a fault, and by want of memory, stands in front of what the link has left. It says whether the line
--- was to be written: at a fault just that was done, and at want of memory no more.
+-- was to be written: at a fault just that was done, and at want of memory no more. At a read fault it holds no whole
+-- message.
 abbrev pub Breaks : (awaits plans : List ℕ → Bool → Type 0) → Bool → Next → Option (List ℕ) → Shown → Type 0
 Breaks awaits plans due next.ReadFault ahead after = (r : Reached ahead after) × awaits r.taken due
 Breaks awaits plans due next.WriteFault ahead after = (r : Reached ahead after) × plans r.taken true
@@ -109,8 +110,11 @@ Reads = ReadsBy IsNext Awaits HasPlan
 abbrev pub IsPlanned : Plan → List ℕ → Bool → Type 0
 IsPlanned plan bytes due = due ≡ plan.due
 
+abbrev pub AwaitsBody : Plan → List ℕ → Bool → Type 0
+AwaitsBody plan bytes due = IsBody plan.body bytes (no_content ending.Cut) × (due ≡ plan.due)
+
 abbrev pub ReadsRest : Start → List ℕ → Shown → Next → List ℕ → Shown → Type 0
-ReadsRest start = ReadsBy (HasBody start.method start.target start.plan) (IsPlanned start.plan) (IsPlanned start.plan)
+ReadsRest start = ReadsBy (HasBody start.method start.target start.plan) (AwaitsBody start.plan) (IsPlanned start.plan)
 
 -- the answer at an ending
 abbrev pub next_of : Ending → Next
@@ -130,7 +134,7 @@ IsStart startread.OutOfMemory h = Unit {0}
 -- what the rest of a message comes to, apart from what is written
 pub record IsBodyNext (start : Start) (answer : Next) (buffered : List ℕ) (before : Shown) (buffered' : List ℕ) (after : Shown) : Type 0 where
   pub answers : IfSome (ahead buffered before) (λ bytes. Answers (HasBody start.method start.target start.plan bytes) start.plan.due answer (ahead buffered' after))
-  pub fault : answer ≡ next.ReadFault → IsFault (ahead buffered before) before after
+  pub fault : answer ≡ next.ReadFault → (q : IsFault (ahead buffered before) before after) × IsBody start.plan.body q.reached.taken (no_content ending.Cut)
   pub memory : answer ≡ next.OutOfMemory → Reached (ahead buffered before) after
   pub read : answer ≡ next.WriteFault → ⊥
 

@@ -111,7 +111,7 @@ fn judge_at_end(bytes: &[u8], headers: &mut [HeaderSpan]) -> HeadRead
 /// Judges the bytes that came before the link failed: a head or a bad one among them is told first, so that the answer
 /// does not depend on when they were looked at.
 fn judge_at_fault(bytes: &[u8], headers: &mut [HeaderSpan]) -> HeadRead
-    requires within { length bytes.now ≤ 16384 }
+    requires within { length bytes.now < 16384 }
     requires room { length headers.old ≡ 5500 }
     ensures room { length headers.new ≡ 5500 }
     ensures read { IsHeadStopped result bytes.now headers.new }

@@ -428,9 +428,27 @@ fn first_misjudged<'a>(
 /// read.
 static FAULTS: [(&str, (usize, usize), u64, (u64, u64), &str); 14] = [
     ("", (9, 9), 100, (0, NEVER), "ReadFault"),
-    ("GET / HTTP/1.1\r\n\r\n", (5, 99), 100, (1, NEVER), "ReadFault"),
-    ("G(T / HTTP/1.1\r\n\r\n", (5, 99), 100, (1, NEVER), "BadHead"),
-    ("GET / HTTP/1.1\r\n\r\n", (99, 99), 100, (1, NEVER), "GET /[];ReadFault"),
+    (
+        "GET / HTTP/1.1\r\n\r\n",
+        (5, 99),
+        100,
+        (1, NEVER),
+        "ReadFault",
+    ),
+    (
+        "G(T / HTTP/1.1\r\n\r\n",
+        (5, 99),
+        100,
+        (1, NEVER),
+        "BadHead",
+    ),
+    (
+        "GET / HTTP/1.1\r\n\r\n",
+        (99, 99),
+        100,
+        (1, NEVER),
+        "GET /[];ReadFault",
+    ),
     (
         "POST / HTTP/1.1\r\nContent-Length: 5\r\n\r\nhello",
         (41, 99),

@@ -16,4 +16,4 @@ loop-filled-preserved g c = (
 )
 
 pub returns-in-Err-clause-rest : goal.returns-in-Err-clause-rest
-returns-in-Err-clause-rest g c = rest_fault c.args.start c.loop-filled.filled _ _ _ c.args.body.now c.loop-filled.body c.loop-filled.invariant.4 c.in-Err.ensures.err c.loop-filled.invariant.3 c.in-Err.ensures.cause
+returns-in-Err-clause-rest g c = rest_fault c.args.start c.loop-filled.filled _ _ _ c.args.body.now c.loop-filled.body c.loop-filled.invariant.4 c.in-Err.ensures.err c.loop-filled.invariant.3 c.in-Err.ensures.cause c.loop-filled-test.true c.loop-filled.invariant.1
