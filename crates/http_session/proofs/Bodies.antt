@@ -1,5 +1,5 @@
 -- Bodies of a stated length.
-use Rattle.std.proofs.Common.{◌≡◌, ◌≢◌, ℕ, ◌+◌, ◌<◌, ◌≤◌, List, [], ◌++◌, length, take, drop, refl, sym, ap, ap₂, ◌∙◌, arith, append_assoc, Option, Some, None, Bool, true, nat_lt}
+use Rattle.std.proofs.Common.{◌≡◌, ◌≢◌, ℕ, ◌+◌, ◌<◌, ◌≤◌, List, [], ◌++◌, length, take, drop, refl, sym, ap, ap₂, ◌∙◌, arith, append_assoc, Option, Some, None, true, nat_lt}
 use Rattle.std.specs.Prelude.{IfSome, min}
 use Rattle.std.proofs.lemmas.List.{take_all, drop_all, length-append, length-take, take-append-drop}
 use Rattle.std.proofs.Math.Seq.{take-add}
@@ -10,7 +10,7 @@ use Rattle.http_session.specs.declared.plan.Body.TheVariants as way
 use Rattle.http_session.specs.Frames.{no_content, IsBody}
 use Rattle.http_session.specs.declared.body.Full.{Full}
 use Rattle.http_session.specs.declared.body.Full.TheVariants as full
-use Rattle.http_session.specs.Reading.{after_buffer, ahead, Reached, IsFault, IsRest, IsFull}
+use Rattle.http_session.specs.Reading.{after_buffer, IsFault, IsRest, IsFull}
 use Rattle.http_session.proofs.Spots.{after_none}
 
 pub keeps_stay : (s : Shown) → KeepsGiven s s

@@ -1,6 +1,6 @@
 -- The reader's trailer is the grammar's.
-use Rattle.std.proofs.Common.{◌≡◌, ◌≢◌, ℕ, zero, suc, Bool, true, false, ◌==◌, not, List, [], ◌∷◌, ◌++◌, refl, sym, ap, subst, ◌∙◌, arith, append_assoc, append-nil, if◌then◌else◌}
-use Rattle.std.specs.List.{flat_map, list_all}
+use Rattle.std.proofs.Common.{◌≡◌, ℕ, zero, suc, Bool, true, false, ◌==◌, not, List, [], ◌∷◌, ◌++◌, refl, sym, ap, subst, ◌∙◌, arith, append_assoc, append-nil, if◌then◌else◌}
+use Rattle.std.specs.List.{list_all}
 use Rattle.std.proofs.lemmas.Bool.{and_parts}
 use Rattle.std.proofs.lemmas.Bool.Decides.{nat_tests}
 use Rattle.std.proofs.lemmas.List.Folds.{list_all-append}
@@ -8,8 +8,8 @@ use Rattle.std.proofs.lemmas.List.Concat.{flat_map-cons}
 use Rattle.httparse.specs.Grammar.{LineEnd, crlf, lf, print_end}
 use Rattle.http_session.specs.declared.chunks.Begun.{Begun}
 use Rattle.http_session.specs.declared.chunks.Begun.TheVariants as begun
-use Rattle.http_session.specs.Trailers.{is_in_line, is_blank, IsTrailerLine, AreTrailerLines, print_line, print_trailer, ReadsTrailer, HasNoTrailer}
-use Rattle.http_session.specs.Chunks.{Line, line, no_line, part_line, Stop, whole, wrong, large, part, Turn, goes, stops, chunk_of, IsAfterTrailer, IsTurnOf}
+use Rattle.http_session.specs.Trailers.{is_in_line, is_blank, IsTrailerLine, AreTrailerLines, print_trailer, ReadsTrailer, HasNoTrailer}
+use Rattle.http_session.specs.Chunks.{Line, line, no_line, part_line, Stop, whole, wrong, large, part, Turn, stops, IsAfterTrailer, IsTurnOf}
 use Rattle.http_session.specs.Spots.{is_empty_line, begun_more, after_trailer, turn_of}
 use Rattle.http_session.proofs.Turns.{turn_chunk}
 

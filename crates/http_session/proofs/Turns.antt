@@ -14,7 +14,7 @@ use Rattle.http_session.specs.declared.chunks.ChunkRead.TheVariants as chunkread
 use Rattle.http_session.specs.Chunks.{line, no_line, part_line, Stop, whole, wrong, large, part, Turn, goes, stops, after_return, after_data, chunk_of}
 use Rattle.http_session.specs.Lines.{line_of}
 use Rattle.http_session.specs.Reading.{after_buffer, ahead, Moved}
-use Rattle.http_session.specs.Spots.{Spot, spot, window, Moves, Passes, part_ending, stop_ending, Alike, IsBroken, IsTurn, IsCopied, is_empty_line, begun_more, after_trailer, trailer_step, turn_of}
+use Rattle.http_session.specs.Spots.{Spot, spot, Moves, Passes, part_ending, stop_ending, Alike, IsBroken, IsTurn, IsCopied, is_empty_line, begun_more, after_trailer, trailer_step, turn_of}
 use Rattle.http_session.proofs.Spots.{passes_on, passes_alike, fault_on, reached_on, part_same, after_none, after_twice}
 
 pub alike_byte : {X : Type 0} (f g : List ℕ → X) (b : ℕ) (v w : Option (List ℕ)) → v ≡ after_buffer (b ∷ []) w → ((x : List ℕ) → f (b ∷ x) ≡ g x) → Alike f v g w
