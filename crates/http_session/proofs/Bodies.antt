@@ -14,10 +14,10 @@ use Rattle.http_session.specs.Reading.{after_buffer, IsFault, IsRest, IsFull}
 use Rattle.http_session.proofs.Spots.{after_none}
 
 pub keeps_stay : (s : Shown) → KeepsGiven s s
-keeps_stay s = record { given = refl; puts = refl; takes = omega arith; place = refl }
+keeps_stay s = record { given = refl; passed = refl; puts = refl; takes = omega arith; place = refl }
 
 pub keeps_on : (s t u : Shown) → KeepsGiven s t → KeepsGiven t u → KeepsGiven s u
-keeps_on s t u m n = record { given = n.given ∙ m.given; puts = n.puts ∙ m.puts; takes = omega (arith, m.takes, n.takes); place = n.place ∙ m.place }
+keeps_on s t u m n = record { given = n.given ∙ m.given; passed = n.passed ∙ m.passed; puts = n.puts ∙ m.puts; takes = omega (arith, m.takes, n.takes); place = n.place ∙ m.place }
 
 -- n more bytes behind the first f
 pub rest_more : (all left left' : Option (List ℕ)) (f n : ℕ) (old new : List ℕ) → all ≡ after_buffer (take f old) left → take f new ≡ take f old → left' ≡ left_after left n

@@ -39,12 +39,12 @@ ahead_at_end P a None none p = tt
 ahead_at_end P a (Some b) none p = subst P (sym (ap (λ (x : List ℕ). a ++ x) none ∙ append-nil a)) p
 
 pub moved_stay : (a : List ℕ) (s : Shown) → Moved a s a s
-moved_stay a s = record { same = refl; keeps = record { given = refl; puts = refl; takes = omega arith; place = refl } }
+moved_stay a s = record { same = refl; keeps = record { given = refl; passed = refl; puts = refl; takes = omega arith; place = refl } }
 
 pub moved_on : (a b c : List ℕ) (s t u : Shown) → Moved a s b t → Moved b t c u → Moved a s c u
 moved_on a b c s t u m n = record {
   same = n.same ∙ m.same;
-  keeps = record { given = n.keeps.given ∙ m.keeps.given; puts = n.keeps.puts ∙ m.keeps.puts; takes = omega (arith, m.keeps.takes, n.keeps.takes); place = n.keeps.place ∙ m.keeps.place };
+  keeps = record { given = n.keeps.given ∙ m.keeps.given; passed = n.keeps.passed ∙ m.keeps.passed; puts = n.keeps.puts ∙ m.keeps.puts; takes = omega (arith, m.keeps.takes, n.keeps.takes); place = n.keeps.place ∙ m.keeps.place };
 }
 
 pub full_read : (r : HeadRead) (a b : List ℕ) (headers : List HeaderSpan) (before after : Shown) → a ≡ b → IsHeadFull r a headers → IsHeadRead r b headers before after

@@ -1,7 +1,8 @@
 -- What the reader's steps come to.
 use Rattle.std.proofs.Common.{◌≡◌, inl, inr, ℕ, ◌<◌, ◌≤◌, Bool, true, false, List, [], ◌++◌, length, drop, refl, sym, ap, subst, ◌∙◌, arith, append-nil, Option, Some, None}
 use Rattle.std.specs.Prelude.{Ok, Err, IfSome}
-use Rattle.wfs_ends.specs.Ends.{Shown, Rose, KeepsGiven, GivesAll, given_more}
+use Rattle.wfs_ends.specs.Ends.{Shown, Rose, AllGrow, KeepsGiven, GivesAll, given_more}
+use Rattle.wfs_ends.proofs.Given.{all_grow, keeps_none}
 use Rattle.httparse.specs.Grammar.{print_request, ReadsRequest}
 use Rattle.httparse.proofs.GrammarLemmas.{ReadsRequest-append}
 use Rattle.httparse.specs.declared.spans.HeaderSpan.{HeaderSpan}
@@ -95,7 +96,7 @@ given_none None = refl
 given_none (Some g) = ap Some (sym (append-nil g))
 
 pub asked_not : (due : Bool) (s : Shown) → due ≡ false → IsAsked due false s s
-asked_not due s is = rw is (record { given = given_none s.given; keeps = record { left = refl; takes = refl; puts = omega arith; place = refl } })
+asked_not due s is = rw is (record { given = given_none s.given; keeps = keeps_none s })
 
 frame_due : (method target : List ℕ) (plan : Plan) (found : BodyFound) → is_due (framed method target plan found) ≡ plan.due
 frame_due method target plan (content found rest) = refl
@@ -107,7 +108,7 @@ ask_failed start b b' s t (due, front) = record {
   answers = each (ahead b s);
   written = (refl, record { front = front.front; rest = front.rest; parts = front.parts; given = front.given; cause = front.cause });
   breaks = (record { taken = b; parts = ap (after_buffer b) (sym front.keeps.left) }, sym due);
-  stays = record { takes = omega (arith, front.keeps.takes); puts = front.keeps.puts; place = front.keeps.place };
+  stays = record { takes = omega (arith, front.keeps.takes); passed = front.keeps.passed; puts = front.keeps.puts; place = front.keeps.place };
 }
   where
     each : (o : Option (List ℕ)) → IfSome o (λ bytes. OnlyDue true (HasBody start.method start.target start.plan bytes))
@@ -141,7 +142,7 @@ breaks_by plan next.WriteFault b s m t e fault memory read = absurd (read refl)
 breaks_by plan next.OutOfMemory b s m t e fault memory read = (subst (λ left. Reached (after_buffer b left) t) e (memory refl), λ yes. sym yes)
 
 stays_by : (text : List ℕ) (s m t : Shown) → GivesAll s text m → KeepsGiven m t → Stays s t
-stays_by text s m t g k = record { takes = omega (arith, g.keeps.takes, k.takes); puts = omega (arith, g.keeps.puts, k.puts); place = k.place ∙ g.keeps.place }
+stays_by text s m t g k = record { takes = omega (arith, g.keeps.takes, k.takes); passed = subst (λ (p : List (Option (List ℕ))). AllGrow s.passed p) (sym k.passed) g.keeps.passed; puts = omega (arith, g.keeps.puts, k.puts); place = k.place ∙ g.keeps.place }
 
 pub rest_read : (start : Start) (a : Next) (b b' : List ℕ) (s m t : Shown) → IsAsked start.plan.due false s m → IsBodyNext start a b m b' t → KeepsGiven m t → ReadsRest start b s a b' t
 rest_read start a b b' s m t g n k = record {
@@ -155,7 +156,7 @@ rest_read start a b b' s m t g n k = record {
 -- ---- the head
 
 stays_same : (s : Shown) → Stays s s
-stays_same s = record { takes = omega arith; puts = omega arith; place = refl }
+stays_same s = record { takes = omega arith; passed = all_grow s.passed; puts = omega arith; place = refl }
 
 written_none : (e : Ending) (a : Next) (s : Shown) → a ≡ next_of e → Written false a s s
 written_none ending.End a s is = rw is (given_none s.given)
@@ -192,7 +193,7 @@ head_failed b c s t m none short rose = record {
   answers = not_due IsNext (ahead b s);
   written = (m.keeps.given ∙ given_none s.given, rose);
   breaks = (record { taken = c; parts = sym m.same }, undecided c none short);
-  stays = record { takes = m.keeps.takes; puts = let k = m.keeps.puts in omega (arith, k); place = m.keeps.place };
+  stays = record { takes = m.keeps.takes; passed = subst (λ (p : List (Option (List ℕ))). AllGrow s.passed p) (sym m.keeps.passed) (all_grow s.passed); puts = let k = m.keeps.puts in omega (arith, k); place = m.keeps.place };
 }
 
 -- no memory for what the head says
@@ -307,7 +308,7 @@ reads_moved a b c b' s m t moved r = record {
   answers = subst (λ o. IfSome o (λ bytes. Answers (IsNext bytes) r.due a (ahead b' t))) moved.same r.answers;
   written = written_moved r.due a s m t moved.keeps r.written;
   breaks = subst (λ o. Breaks Awaits HasPlan r.due a o t) moved.same r.breaks;
-  stays = record { takes = omega (arith, moved.keeps.takes, r.stays.takes); puts = omega (arith, moved.keeps.puts, r.stays.puts); place = r.stays.place ∙ moved.keeps.place };
+  stays = record { takes = omega (arith, moved.keeps.takes, r.stays.takes); passed = subst (λ (p : List (Option (List ℕ))). AllGrow p t.passed) moved.keeps.passed r.stays.passed; puts = omega (arith, moved.keeps.puts, r.stays.puts); place = r.stays.place ∙ moved.keeps.place };
 }
 
 -- ---- a link's source and its sink are one

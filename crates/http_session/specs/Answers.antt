@@ -1,6 +1,6 @@
 -- What the reader answers of the bytes that are still to be read.
 use Rattle.std.specs.Prelude.{ℕ, ◌≡◌, ◌≤◌, ◌⊎◌, List, [], ◌++◌, Bool, true, false, if◌then◌else◌, Option, Some, IfSome, codes, Ok, Err}
-use Rattle.wfs_ends.specs.Ends.{Shown, Rose, GivesAll, GivesFront, given_more}
+use Rattle.wfs_ends.specs.Ends.{Shown, Rose, AllGrow, GivesAll, GivesFront, given_more}
 use Rattle.http_session.specs.declared.message.Ending.{Ending}
 use Rattle.http_session.specs.declared.message.Ending.TheVariants as ending
 use Rattle.http_session.specs.declared.message.Next.{Next}
@@ -88,10 +88,11 @@ Breaks awaits plans due next.NoLength ahead after = Unit {0}
 Breaks awaits plans due next.Coding ahead after = Unit {0}
 Breaks awaits plans due next.Cut ahead after = Unit {0}
 
--- counts never fall, and no borrow in the link is exchanged
+-- counts never fall, what was passed on stays so, and no borrow in the link is exchanged
 pub record Stays (before after : Shown) : Type 0 where
   pub takes : before.failed_takes ≤ after.failed_takes
   pub puts : before.failed_puts ≤ after.failed_puts
+  pub passed : AllGrow before.passed after.passed
   pub place : after.place ≡ before.place
 
 -- what a call answered and wrote, where the bytes that were to be read have these frames
