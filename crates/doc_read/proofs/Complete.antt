@@ -80,7 +80,7 @@ begins_piece (comment body) rest = (60, 33 ∷ 45 ∷ 45 ∷ ((body ++ 45 ∷ 45
 begins_piece (section body) rest = (60, 33 ∷ 91 ∷ 67 ∷ 68 ∷ 65 ∷ 84 ∷ 65 ∷ 91 ∷ ((body ++ 93 ∷ 93 ∷ 62 ∷ []) ++ rest), refl, refl)
 begins_piece (reference r c) rest = (38, (print_reference r ++ 59 ∷ []) ++ rest, refl, refl)
 
-some_piece : (p : Piece) → 0 < length (print_piece p)
+pub some_piece : (p : Piece) → 0 < length (print_piece p)
 some_piece (comment body) = omega arith
 some_piece (section body) = omega arith
 some_piece (reference r c) = omega arith

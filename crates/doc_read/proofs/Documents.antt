@@ -69,7 +69,7 @@ pub record ReadRemark (cs t : List ℕ) : Type 0 where
 ends_here : (xs : List ℕ) (b : Bool) (t : List ℕ) → done {A = Bool × List ℕ} (true, xs) ≡ done (b, t) → ((b ≡ true) × (xs ≡ t)) ⊎ ((b ≡ false) × ReadRemark xs t)
 ends_here xs b t e = let is = is_it (true, xs) (b, t) e in inl (sym (ap (λ (p : Bool × List ℕ). p.0) is), ap (λ (p : Bool × List ℕ). p.1) is)
 
-misc_piece_takes : (xs : List ℕ) (b : Bool) (t : List ℕ) → misc_piece xs ≡ Ok (b, t) → ((b ≡ true) × (xs ≡ t)) ⊎ ((b ≡ false) × ReadRemark xs t)
+pub misc_piece_takes : (xs : List ℕ) (b : Bool) (t : List ℕ) → misc_piece xs ≡ Ok (b, t) → ((b ≡ true) × (xs ≡ t)) ⊎ ((b ≡ false) × ReadRemark xs t)
 misc_piece_takes [] b t e = ends_here [] b t e
 misc_piece_takes (c ∷ []) b t e =
     elim (chosen (eqb c 60) (done (true, c ∷ [])) (done (true, c ∷ [])) (Ok (b, t)) e) [

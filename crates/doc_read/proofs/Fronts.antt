@@ -1,21 +1,29 @@
 -- The longest front of a class.
-use Rattle.std.proofs.Common.{◌≡◌, ℕ, ◌<◌, ◌≤◌, ◌+◌, Bool, true, false, ◌&&◌, List, [], ◌∷◌, ◌++◌, length, get_or, take, drop, refl, ◌∙◌, arith}
+use Rattle.std.proofs.Common.{◌≡◌, ℕ, suc, ◌+◌, Bool, true, false, ◌&&◌, List, [], ◌∷◌, ◌++◌, length, take, drop, refl, sym, ap, ◌∙◌, arith}
 use Rattle.std.specs.List.{prefix_len, list_all}
-use Rattle.std.proofs.lemmas.List.{at_drop_more, at_drop_all, take_at, drop_at}
+use Rattle.std.proofs.lemmas.List.{append_cancel_right, take-append-drop, take_at, drop_at}
 use Rattle.doc_read.specs.declared.lex.Class.{Class}
 use Rattle.doc_read.specs.Chars.{holds, split_front, starts}
 
-pub prefix_len_stops : (p : ℕ → Bool) (cs : List ℕ) (n c : ℕ) → n < length cs → c ≡ get_or cs n c → p c ≡ false → prefix_len p (drop n cs) ≡ 0
-prefix_len_stops p cs n c lt is fails = at_drop_more (prefix_len p) cs n c lt ∙ rw (← is, fails) refl
-
-pub prefix_len_ends : (p : ℕ → Bool) (cs : List ℕ) (n : ℕ) → length cs ≤ n → prefix_len p (drop n cs) ≡ 0
-prefix_len_ends p cs n le = at_drop_all (prefix_len p) cs n le
-
-pub split_front_is : (class : Class) (cs : List ℕ) (n : ℕ) → n + prefix_len (holds class) (drop n cs) ≡ prefix_len (holds class) cs → prefix_len (holds class) (drop n cs) ≡ 0 → (take n cs, drop n cs) ≡ split_front class cs
+-- one more character of the class
+pub skip_turn : (class : Class) (c : ℕ) (cs rest : List ℕ) → holds class c ≡ true → cs ≡ c ∷ rest → (split_front class rest).1 ≡ (split_front class cs).1
 unfolding split_front
-split_front_is class cs n so_far stops =
-    let is : n ≡ prefix_len (holds class) cs = omega (arith, so_far, stops) in
-    rw (← is) refl
+skip_turn class c cs rest is whole =
+    let k : 1 + prefix_len (holds class) rest ≡ suc (prefix_len (holds class) rest) = omega arith in
+    rw (whole, is, k) refl
+
+pub skip_end : (class : Class) (cs : List ℕ) → starts class cs ≡ false → (split_front class cs).1 ≡ cs
+unfolding split_front
+skip_end class [] stops = refl
+skip_end class (c ∷ cs) stops = rw stops refl
+
+-- a front is known by what comes after it
+pub split_front_is : (class : Class) (cs front rest : List ℕ) → cs ≡ front ++ rest → rest ≡ (split_front class cs).1 → (front, rest) ≡ split_front class cs
+unfolding split_front
+split_front_is class cs front rest whole is =
+    let n = prefix_len (holds class) cs in
+    let same : front ++ rest ≡ take n cs ++ rest = sym whole ∙ sym (take-append-drop n cs) ∙ ap (λ x. take n cs ++ x) (sym is) in
+    rw (← is) (ap (λ x. (x, rest)) (append_cancel_right front (take n cs) rest same))
 
 -- ---- what a front is, and when it is found again
 

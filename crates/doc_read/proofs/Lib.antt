@@ -1,4 +1,5 @@
 pub mod Fronts
+pub mod Rests
 pub mod Words
 pub mod Text
 pub mod Numbers
@@ -14,3 +15,5 @@ pub mod Takes
 pub mod Sound
 pub mod Settings
 pub mod Documents
+pub mod Enough
+pub mod Bytes

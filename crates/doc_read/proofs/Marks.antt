@@ -73,7 +73,7 @@ cut_takes found (Ok x) later front rest e =
     inl (ap (λ (p : List ℕ × List ℕ). done p.1) is, sym (ap (λ (p : List ℕ × List ℕ). p.0) is))
 cut_takes found (Err d) later front rest e = inr (refl, e)
 
-neither : (a b : Bool) → (a || b) ≡ false → (a ≡ false) × (b ≡ false)
+pub neither : (a b : Bool) → (a || b) ≡ false → (a ≡ false) × (b ≡ false)
 neither true b h = absurd cc
 neither false b h = (refl, h)
 

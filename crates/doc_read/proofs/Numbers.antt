@@ -1,7 +1,6 @@
 -- Numbers that are cut at the first that is no character.
-use Rattle.std.proofs.Common.{le-mul_of_pos_right, ◌≡◌, ℕ, ◌+◌, ◌*◌, ◌<◌, ◌≤◌, inl, inr, List, [], ◌∷◌, length, get_or, drop, true, false, refl, sym, ap, ◌∙◌, arith}
+use Rattle.std.proofs.Common.{le-mul_of_pos_right, ◌≡◌, ℕ, ◌+◌, ◌*◌, ◌<◌, ◌≤◌, inl, inr, List, [], ◌∷◌, true, false, refl, sym, ap, ◌∙◌, arith}
 use Rattle.std.specs.Prelude.{min}
-use Rattle.std.proofs.lemmas.List.{at_drop_more, at_drop_all}
 use Rattle.std.proofs.lemmas.Bool.{cases_lt}
 use Rattle.std.proofs.lemmas.Bool.Decides.{nat_tests}
 use Rattle.doc_read.specs.Chars.{is_allowed}
@@ -25,13 +24,13 @@ capped base v (c ∷ cs) some =
     ∙ ap (λ x. min (number base x cs) 0x110000) (stays base v (digit c) some)
     ∙ capped base (v * base + digit c) cs some
 
-pub number_turn : (base v : ℕ) (cs : List ℕ) (i d : ℕ) → 0 < base → i < length cs → min (number base v (drop i cs)) 0x110000 ≡ min (number base (min (v * base + digit (get_or cs i d)) 0x110000) (drop (i + 1) cs)) 0x110000
+pub number_turn : (base v c : ℕ) (cs rest : List ℕ) → 0 < base → cs ≡ c ∷ rest → min (number base (min (v * base + digit c) 0x110000) rest) 0x110000 ≡ min (number base v cs) 0x110000
 unfolding number
-number_turn base v cs i d some lt = at_drop_more (λ ys. min (number base v ys) 0x110000) cs i d lt ∙ sym (capped base (v * base + digit (get_or cs i d)) (drop (i + 1) cs) some)
+number_turn base v c cs rest some is = capped base (v * base + digit c) rest some ∙ ap (λ ys. min (number base v ys) 0x110000) (sym is)
 
-pub number_end : (base v : ℕ) (cs : List ℕ) (i : ℕ) → length cs ≤ i → number base v (drop i cs) ≡ v
+pub number_end : (base v : ℕ) (cs : List ℕ) → cs ≡ [] → number base v cs ≡ v
 unfolding number
-number_end base v cs i le = at_drop_all (number base v) cs i le
+number_end base v cs is = rw is refl
 
 pub allowed_capped : (v : ℕ) → is_allowed (min v 0x110000) ≡ is_allowed v
 allowed_capped v =

@@ -1,5 +1,5 @@
 -- What comes twice in a list.
-use Rattle.std.proofs.Common.{◌≡◌, ℕ, ◌<◌, ◌≤◌, ◌+◌, List, [], ◌∷◌, ◌++◌, Bool, true, false, not, cond, ◌||◌, length, get_or, take, drop, map, refl, ap, sym, ◌∙◌}
+use Rattle.std.proofs.Common.{◌≡◌, ℕ, ◌<◌, ◌≤◌, ◌+◌, List, [], ◌∷◌, ◌++◌, Bool, true, false, not, cond, ◌||◌, length, get_or, take, drop, map, refl, ap, sym, ◌∙◌, arith}
 use Rattle.std.specs.List.{list_any}
 use Rattle.std.specs.Str.{bytes_eq}
 use Rattle.std.proofs.lemmas.List.{at_drop_more, at_drop_all, take_more, take-append-drop, append-nil}
@@ -7,6 +7,18 @@ use Rattle.doc_tree.specs.declared.tree.Attribute.{Attribute}
 use Rattle.doc_read.specs.declared.tag.RawAttribute.{RawAttribute}
 use Rattle.doc_read.specs.Lex.{raw_of}
 use Rattle.doc_read.specs.Scope.{has_twins, written, spellings, expanded, expanded_names}
+
+pub few_spellings : (rs : List RawAttribute) → length rs < 2 → has_twins (spellings (map raw_of rs)) ≡ false
+unfolding has_twins
+few_spellings [] few = refl
+few_spellings (r ∷ []) few = refl
+few_spellings (r ∷ s ∷ rs) few = absurd (omega arith)
+
+pub few_names : (xs : List Attribute) → length xs < 2 → has_twins (expanded_names xs) ≡ false
+unfolding has_twins
+few_names [] few = refl
+few_names (x ∷ []) few = refl
+few_names (x ∷ y ∷ xs) few = absurd (omega arith)
 
 pub spellings_turn : (rs : List RawAttribute) (i : ℕ) (r : RawAttribute) → i < length rs → r ≡ get_or rs i r → spellings (map raw_of (drop i rs)) ≡ written (raw_of r).name ∷ spellings (map raw_of (drop (i + 1) rs))
 spellings_turn rs i r lt is = at_drop_more (λ ys. spellings (map raw_of ys)) rs i r lt ∙ ap (λ x. written (raw_of x).name ∷ spellings (map raw_of (drop (i + 1) rs))) (sym is)

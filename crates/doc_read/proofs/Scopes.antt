@@ -85,6 +85,10 @@ pub unknown_end : (scope : List Bound) (rs : List RawAttribute) (i : ℕ) → le
 unfolding has_unknown
 unknown_end scope rs i le = from_end (has_unknown scope) raw_of rs i le
 
+pub unknown_pass : (scope : List Bound) (rs : List RawAttribute) (i : ℕ) (r : RawAttribute) (b total : Bool) → i < length rs → r ≡ get_or rs i r → b ≡ is_unknown scope (raw_of r) → b ≡ false → has_unknown scope (map raw_of (drop i rs)) ≡ total → has_unknown scope (map raw_of (drop (i + 1) rs)) ≡ total
+unknown_pass scope rs i r b total lt is same clear so_far =
+    sym (unknown_turn scope rs i r lt is ∙ ap (λ (x : Bool). x || has_unknown scope (map raw_of (drop (i + 1) rs))) (sym same ∙ clear)) ∙ so_far
+
 pub unknown_found : (scope : List Bound) (rs : List RawAttribute) (i : ℕ) (r : RawAttribute) (b total : Bool) → i < length rs → r ≡ get_or rs i r → b ≡ is_unknown scope (raw_of r) → b ≡ true → has_unknown scope (map raw_of (drop i rs)) ≡ total → true ≡ total
 unknown_found scope rs i r b total lt is same set so_far =
     sym (unknown_turn scope rs i r lt is ∙ ap (λ (x : Bool). x || has_unknown scope (map raw_of (drop (i + 1) rs))) (sym same ∙ set)) ∙ so_far

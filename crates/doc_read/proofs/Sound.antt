@@ -32,7 +32,7 @@ pub record ReadPiece (cs text rest : List ℕ) : Type 0 where
   pub means : piece_text piece ≡ encode_utf8_all text
   pub printed : 60 ∷ 33 ∷ cs ≡ print_piece piece ++ rest
 
-marked_takes : (cs text rest : List ℕ) → marked_at cs ≡ Ok (text, rest) → ReadPiece cs text rest
+pub marked_takes : (cs text rest : List ℕ) → marked_at cs ≡ Ok (text, rest) → ReadPiece cs text rest
 unfolding marked_at
 marked_takes cs text rest e =
     let commented : Reads (List ℕ) = remark_at cs >>= λ after. Ok ([], after) in
@@ -177,7 +177,7 @@ grown d scope kids text seen cs tree seen' more t nothing m k = record {
   printed = ap (λ (x : List ℕ). 60 ∷ x) (m.printed ∙ ap (λ (x : List ℕ). print m.markup ++ x) k.printed) ∙ simp append_assoc;
 }
 
-run_takes : (cs run rest : List ℕ) → run_at cs ≡ Ok (run, rest) → IsRun run × (cs ≡ run ++ rest) × (starts Text rest ≡ false)
+pub run_takes : (cs run rest : List ℕ) → run_at cs ≡ Ok (run, rest) → IsRun run × (cs ≡ run ++ rest) × (starts Text rest ≡ false)
 unfolding run_at
 run_takes cs run rest e =
     let a = bind_ok (unless (contains word.SectionEnd (split_front Text cs).0) Malformed) (λ unclosed. Ok (split_front Text cs)) (run, rest) e in

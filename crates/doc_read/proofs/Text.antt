@@ -1,11 +1,14 @@
 -- Whether bytes are text, and where its lines end.
-use Rattle.std.proofs.Common.{◌≡◌, ℕ, ◌+◌, ◌<◌, ◌≤◌, Bool, true, false, eqb, List, ◌++◌, map, length, get_or, drop, refl, ap, ◌∙◌}
-use Rattle.std.specs.Prelude.{encode_utf8, encode_utf8_all}
+use Rattle.std.proofs.Common.{◌≡◌, ℕ, Bool, true, false, eqb, List, [], ◌∷◌, ◌++◌, map, refl, ap, ◌∙◌}
+use Rattle.std.specs.Prelude.{◌==◌, encode_utf8, encode_utf8_all}
 use Rattle.std.specs.Str.{IsUtf8, is_utf8}
 use Rattle.std.proofs.lemmas.Str.{is_utf8-from_IsUtf8, IsUtf8-from_is_utf8}
-use Rattle.std.proofs.lemmas.List.{at_drop_more, at_drop_all, append-nil}
+use Rattle.std.proofs.lemmas.Str.{encodes-append}
+use Rattle.std.proofs.lemmas.List.{append-nil}
+use Rattle.std.specs.List.{list_any}
 use Rattle.doc_read.specs.Lex.{plain}
 use Rattle.doc_read.specs.Document.{line_piece, line_feeds}
+use Rattle.doc_read.proofs.Marks.{neither}
 
 pub is_utf8_yes : (bs : List ℕ) → IsUtf8 bs → is_utf8 bs ≡ true
 is_utf8_yes = is_utf8-from_IsUtf8
@@ -17,24 +20,26 @@ false_unless false h = refl
 pub is_utf8_no : (bs : List ℕ) → ¬ (IsUtf8 bs) → is_utf8 bs ≡ false
 is_utf8_no bs is = false_unless (is_utf8 bs) (λ e. is (IsUtf8-from_is_utf8 bs e))
 
-pub line_turn : (was : Bool) (cs : List ℕ) (i d : ℕ) → i < length cs → line_feeds was (drop i cs) ≡ line_piece was (get_or cs i d) ++ line_feeds (eqb (get_or cs i d) 13) (drop (i + 1) cs)
+pub line_turn : (was : Bool) (c : ℕ) (cs rest : List ℕ) → cs ≡ c ∷ rest → encode_utf8_all (line_feeds was cs) ≡ encode_utf8_all (line_piece was c) ++ encode_utf8_all (line_feeds (eqb c 13) rest)
 unfolding line_feeds
-line_turn was cs i d lt = at_drop_more (line_feeds was) cs i d lt
+line_turn was c cs rest is = ap (λ ys. encode_utf8_all (line_feeds was ys)) is ∙ encodes-append (line_piece was c) (line_feeds (eqb c 13) rest)
 
-pub line_end : (found : List ℕ) (was : Bool) (cs : List ℕ) (i : ℕ) → length cs ≤ i → found ++ line_feeds was (drop i cs) ≡ found
+pub line_end : (found : List ℕ) (was : Bool) (cs : List ℕ) → cs ≡ [] → found ++ encode_utf8_all (line_feeds was cs) ≡ found
 unfolding line_feeds
-line_end found was cs i le = ap (λ ys. found ++ ys) (at_drop_all (line_feeds was) cs i le) ∙ append-nil found
+line_end found was cs is = rw is (append-nil found)
+
+-- without carriage returns, lines end as they do
+pub lines_stay : (cs : List ℕ) → list_any (λ c. c == 13) cs ≡ false → line_feeds false cs ≡ cs
+unfolding line_feeds line_piece
+lines_stay [] none = refl
+lines_stay (c ∷ cs) none =
+    let p = neither (eqb c 13) (list_any (λ d. d == 13) cs) none in
+    rw (p.0, lines_stay cs p.1) refl
 
 -- ---- characters one by one
 
-pub encodes_turn : (cs : List ℕ) (i d : ℕ) → i < length cs → encode_utf8_all (drop i cs) ≡ encode_utf8 (get_or cs i d) ++ encode_utf8_all (drop (i + 1) cs)
-encodes_turn cs i d lt = at_drop_more encode_utf8_all cs i d lt
+pub plain_turn : (c : ℕ) (cs rest : List ℕ) → cs ≡ c ∷ rest → encode_utf8_all (map plain cs) ≡ encode_utf8 (plain c) ++ encode_utf8_all (map plain rest)
+plain_turn c cs rest is = rw is refl
 
-pub encodes_end : (found cs : List ℕ) (i : ℕ) → length cs ≤ i → found ++ encode_utf8_all (drop i cs) ≡ found
-encodes_end found cs i le = ap (λ ys. found ++ ys) (at_drop_all encode_utf8_all cs i le) ∙ append-nil found
-
-pub plain_turn : (cs : List ℕ) (i d : ℕ) → i < length cs → encode_utf8_all (map plain (drop i cs)) ≡ encode_utf8 (plain (get_or cs i d)) ++ encode_utf8_all (map plain (drop (i + 1) cs))
-plain_turn cs i d lt = at_drop_more (λ ys. encode_utf8_all (map plain ys)) cs i d lt
-
-pub plain_end : (found cs : List ℕ) (i : ℕ) → length cs ≤ i → found ++ encode_utf8_all (map plain (drop i cs)) ≡ found
-plain_end found cs i le = ap (λ ys. found ++ ys) (at_drop_all (λ ys. encode_utf8_all (map plain ys)) cs i le) ∙ append-nil found
+pub plain_end : (found cs : List ℕ) → cs ≡ [] → found ++ encode_utf8_all (map plain cs) ≡ found
+plain_end found cs is = rw is (append-nil found)

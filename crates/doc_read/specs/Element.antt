@@ -1,6 +1,7 @@
 -- Elements, and what stands inside them (XML 1.0, 3.1, 2.4, 2.5 and 2.7).
 use Rattle.std.specs.Prelude.{ℕ, zero, suc, ◌+◌, Bool, true, false, ◌&&◌, length, List, [], ◌∷◌, ◌++◌, string_bytes, Result, Ok, Err, ◌==◌, nat_lt, nat_le, if◌then◌else◌, encode_utf8, encode_utf8_all}
 use Rattle.std.specs.List.{list_all}
+use Rattle.std.specs.Str.{chars}
 use Rattle.wfs_ends.specs.Read.{◌>>=◌, until, unless}
 use Rattle.doc_tree.specs.declared.tree.QName.{QName}
 use Rattle.doc_tree.specs.declared.tree.Attribute.{Attribute}
@@ -73,7 +74,7 @@ pub record Inside : Type 0 where
   pub rest : List ℕ
 
 abbrev pub inside_of : code_inside.Inside → Inside
-inside_of s = record { children = s.children.items; text = string_bytes s.text; seen = s.seen; rest = s.rest.now }
+inside_of s = record { children = s.children.items; text = string_bytes s.text; seen = s.seen; rest = chars s.rest.now }
 
 -- an element, how many elements came so far, and the text that is left
 abbrev pub ReadsElement : Type 0

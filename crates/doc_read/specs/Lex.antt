@@ -1,6 +1,6 @@
 -- The parts of a tag.
 use Rattle.std.specs.Prelude.{codes, ℕ, length, zero, suc, ◌+◌, ◌*◌, ◌-◌, Bool, true, false, not, ◌++◌, map, ◌||◌, List, [], ◌∷◌, Result, Ok, Err, ◌==◌, nat_le, if◌then◌else◌, encode_utf8, encode_utf8_all}
-use Rattle.std.specs.Str.{bytes_eq}
+use Rattle.std.specs.Str.{bytes_eq, chars}
 use Rattle.wfs_ends.specs.Read.{◌>>=◌, until, unless}
 use Rattle.doc_read.specs.declared.fault.DocFault.{DocFault}
 use Rattle.doc_read.specs.declared.fault.DocFault.TheVariants.{Malformed}
@@ -24,7 +24,7 @@ pub record Spelling : Type 0 where
   pub local : List ℕ
 
 abbrev pub spelled : code.Spelled → Spelling
-spelled s = record { prefix = s.prefix.now; local = s.local.now }
+spelled s = record { prefix = chars s.prefix.now; local = chars s.local.now }
 
 -- what follows the first name of a spelling
 abbrev pub local_at : List ℕ → List ℕ → Reads Spelling

@@ -1,5 +1,6 @@
 pub mod Read
 pub mod Chars
+pub mod Rest
 pub mod Lex
 pub mod Scope
 pub mod Levels

@@ -1,5 +1,6 @@
 -- What reading gives: a value, or the first fault.
 use Rattle.std.specs.Prelude.{◌≡◌, ℕ, List, Option, Some, None, Result, Ok, Err}
+use Rattle.std.specs.Str.{chars}
 use Rattle.std.specs.Borrow.{Bor}
 use Rattle.wfs_ends.specs.Read.{FailsBut, GivesBut}
 use Rattle.doc_read.specs.declared.fault.DocFault.{DocFault}
@@ -24,5 +25,5 @@ GivesBy view answer read = GivesBut OutOfMemory view answer read
 
 -- what was found is what reading gives, and nothing was found where that is malformed
 abbrev pub Finds : Option (Bor (List ℕ)) → Result (List ℕ) DocFault → Type 0
-Finds (Some x) read = read ≡ Ok x.now
+Finds (Some x) read = read ≡ Ok (chars x.now)
 Finds None read = read ≡ Err Malformed

@@ -1,21 +1,23 @@
 //! The declaration that may stand first.
 
 ghost use Rattle.std.specs.Prelude.{◌≡◌};
+ghost use Rattle.std.specs.Str.{chars};
 ghost use Rattle.doc_read.specs.Read.{GivesBy};
 ghost use Rattle.doc_read.specs.Declaration.{quoted_at, setting_at, fits, required_at, optional_at, settings_at, declaration_at};
 
 use crate::fault::DocFault;
 use crate::lex::{Class, expected_at, skip_space, split_front, starts};
+use crate::front::{first, same};
 use crate::word::{Word, begins, word_at};
 
 #[tactic(auto, unfolding(crate::specs::Declaration::quoted_at))]
-fn quoted_at(cs: &[char]) -> Result<(&[char], &[char]), DocFault>
-    ensures { GivesBy (λ x. (x.0.now, x.1.now)) result (quoted_at cs.now) }
+fn quoted_at(cs: &str) -> Result<(&str, &str), DocFault>
+    ensures { GivesBy (λ x. (chars x.0.now, chars x.1.now)) result (quoted_at (chars cs.now)) }
 {
-    match cs {
-        [quote @ ('"' | '\''), rest @ ..] => {
-            let (value, rest) = split_front(Class::Quoted(*quote), rest);
-            Ok((value, expected_at(*quote, rest)?))
+    match first(cs) {
+        Some((quote @ ('"' | '\''), rest)) => {
+            let (value, rest) = split_front(Class::Quoted(quote), rest);
+            Ok((value, expected_at(quote, rest)?))
         }
         _ => Err(DocFault::Malformed),
     }
@@ -23,8 +25,8 @@ fn quoted_at(cs: &[char]) -> Result<(&[char], &[char]), DocFault>
 
 /// White space, a word, an equals sign and a value.
 #[tactic(auto, unfolding(crate::specs::Declaration::setting_at, wfs_ends::specs::Read::unless))]
-fn setting_at(word: Word, cs: &[char]) -> Result<(&[char], &[char]), DocFault>
-    ensures { GivesBy (λ x. (x.0.now, x.1.now)) result (setting_at word cs.now) }
+fn setting_at(word: Word, cs: &str) -> Result<(&str, &str), DocFault>
+    ensures { GivesBy (λ x. (chars x.0.now, chars x.1.now)) result (setting_at word (chars cs.now)) }
 {
     if !starts(Class::Space, cs) {
         return Err(DocFault::Malformed);
@@ -34,36 +36,44 @@ fn setting_at(word: Word, cs: &[char]) -> Result<(&[char], &[char]), DocFault>
     quoted_at(skip_space(rest))
 }
 
-fn is_version(value: &[char]) -> bool
-    ensures { result ≡ fits Word.Version value.now }
+#[tactic(auto, using(crate::proofs::Rests::word_chars))]
+fn is_version(value: &str) -> bool
+    ensures { result ≡ fits Word.Version (chars value.now) }
 {
-    matches!(value, ['1', '.', '0'])
+    same(value, "1.0")
 }
 
-fn is_utf8(value: &[char]) -> bool
+fn spells_utf8(value: &[u8]) -> bool
     ensures { result ≡ fits Word.Encoding value.now }
 {
     match value {
         [u, t, f, dash, eight] => {
-            u.to_ascii_lowercase() == 'u'
-                && t.to_ascii_lowercase() == 't'
-                && f.to_ascii_lowercase() == 'f'
-                && dash.to_ascii_lowercase() == '-'
-                && eight.to_ascii_lowercase() == '8'
+            u.to_ascii_lowercase() == b'u'
+                && t.to_ascii_lowercase() == b't'
+                && f.to_ascii_lowercase() == b'f'
+                && dash.to_ascii_lowercase() == b'-'
+                && eight.to_ascii_lowercase() == b'8'
         }
         _ => false,
     }
 }
 
-fn is_yes_or_no(value: &[char]) -> bool
-    ensures { result ≡ fits Word.Standalone value.now }
+fn is_utf8(value: &str) -> bool
+    ensures { result ≡ fits Word.Encoding (chars value.now) }
 {
-    matches!(value, ['y', 'e', 's'] | ['n', 'o'])
+    spells_utf8(value.as_bytes())
+}
+
+#[tactic(auto, using(crate::proofs::Rests::word_chars))]
+fn is_yes_or_no(value: &str) -> bool
+    ensures { result ≡ fits Word.Standalone (chars value.now) }
+{
+    same(value, "yes") || same(value, "no")
 }
 
 /// Whether a setting may have the value.
-fn fits(word: Word, value: &[char]) -> bool
-    ensures { result ≡ fits word value.now }
+fn fits(word: Word, value: &str) -> bool
+    ensures { result ≡ fits word (chars value.now) }
 {
     match word {
         Word::Version => is_version(value),
@@ -73,8 +83,8 @@ fn fits(word: Word, value: &[char]) -> bool
 }
 
 #[tactic(auto, unfolding(crate::specs::Declaration::required_at))]
-fn required_at(word: Word, cs: &[char]) -> Result<&[char], DocFault>
-    ensures { GivesBy (λ x. x.now) result (required_at word cs.now) }
+fn required_at(word: Word, cs: &str) -> Result<&str, DocFault>
+    ensures { GivesBy (λ x. chars x.now) result (required_at word (chars cs.now)) }
 {
     let (value, rest) = setting_at(word, cs)?;
     if fits(word, value) {
@@ -85,8 +95,8 @@ fn required_at(word: Word, cs: &[char]) -> Result<&[char], DocFault>
 }
 
 #[tactic(auto, unfolding(crate::specs::Declaration::optional_at))]
-fn optional_at(word: Word, cs: &[char]) -> Result<&[char], DocFault>
-    ensures { GivesBy (λ x. x.now) result (optional_at word cs.now) }
+fn optional_at(word: Word, cs: &str) -> Result<&str, DocFault>
+    ensures { GivesBy (λ x. chars x.now) result (optional_at word (chars cs.now)) }
 {
     if begins(word, skip_space(cs)) {
         required_at(word, cs)
@@ -96,8 +106,8 @@ fn optional_at(word: Word, cs: &[char]) -> Result<&[char], DocFault>
 }
 
 #[tactic(auto, unfolding(crate::specs::Declaration::settings_at))]
-fn settings_at(cs: &[char]) -> Result<&[char], DocFault>
-    ensures { GivesBy (λ x. x.now) result (settings_at cs.now) }
+fn settings_at(cs: &str) -> Result<&str, DocFault>
+    ensures { GivesBy (λ x. chars x.now) result (settings_at (chars cs.now)) }
 {
     let rest = required_at(Word::Version, cs)?;
     let rest = optional_at(Word::Encoding, rest)?;
@@ -107,8 +117,8 @@ fn settings_at(cs: &[char]) -> Result<&[char], DocFault>
 
 /// What comes after the declaration, where one stands.
 #[tactic(auto, unfolding(crate::specs::Declaration::declaration_at))]
-pub fn declaration_at(cs: &[char]) -> Result<&[char], DocFault>
-    ensures { GivesBy (λ x. x.now) result (declaration_at cs.now) }
+pub fn declaration_at(cs: &str) -> Result<&str, DocFault>
+    ensures { GivesBy (λ x. chars x.now) result (declaration_at (chars cs.now)) }
 {
     if !begins(Word::Declaration, cs) {
         return Ok(cs);

@@ -1,10 +1,11 @@
 //! Whole documents.
 
-ghost use Rattle.std.specs.Prelude.{◌≡◌, ◌++◌, false, List, ℕ, Ok, OnOk, IfOk};
-ghost use Rattle.std.specs.List.{list_all};
+ghost use Rattle.std.specs.Prelude.{◌≡◌, ◌++◌, ◌==◌, false, List, ℕ, Ok, OnOk, IfOk, string_bytes, encode_utf8_all};
+ghost use Rattle.std.specs.List.{list_all, list_any};
 ghost use Rattle.std.specs.Str.{chars};
 ghost use Rattle.doc_read.specs.Read.{Gives, GivesBy};
 ghost use Rattle.doc_read.specs.Chars.{is_allowed};
+ghost use Rattle.doc_read.specs.Rest.{is_plain};
 ghost use Rattle.doc_read.specs.Scope.{xml_scope};
 ghost use Rattle.doc_read.specs.Document.{line_piece, line_feeds, unmarked, misc_turn, misc_at, tree_at, document};
 ghost use Rattle.doc_read.specs.Grammar.{Spells};
@@ -16,6 +17,7 @@ use crate::inside::remark_at;
 use crate::level::Level;
 use crate::lex::{expected_at, is_allowed, skip_space};
 use crate::scope::xml_bound;
+use crate::front::{first, is_empty};
 use crate::tree::element;
 use doc_tree::Element;
 use std::alloc::{AllocError, Global};
@@ -24,8 +26,8 @@ use wfs_ends::Mem;
 const MAX_DEPTH: u32 = 32;
 
 #[tactic(auto, unfolding(crate::specs::Document::line_piece))]
-fn add_character(found: &mut Vec<char>, was_return: bool, c: char) -> Result<(), AllocError>
-    ensures { OnOk result (found.new.items ≡ found.old.items ++ line_piece was_return c) }
+fn add_character(found: &mut String, was_return: bool, c: char) -> Result<(), AllocError>
+    ensures { OnOk result (string_bytes found.new ≡ string_bytes found.old ++ encode_utf8_all (line_piece was_return c)) }
 {
     if c == '\r' {
         found.push('\n')?;
@@ -39,33 +41,38 @@ fn add_character(found: &mut Vec<char>, was_return: bool, c: char) -> Result<(),
 }
 
 #[tactic(auto, using(crate::proofs::Text::line_turn, crate::proofs::Text::line_end, std::proofs::Common::append_assoc))]
-fn line_feeds(alloc: Global, cs: &[char]) -> Result<Vec<char>, AllocError>
-    ensures { IfOk result (λ v. v.items ≡ line_feeds false cs.now) }
+fn line_feeds(alloc: Global, cs: &str) -> Result<String, AllocError>
+    ensures { IfOk result (λ text. string_bytes text ≡ encode_utf8_all (line_feeds false (chars cs.now))) }
 {
-    let mut found = Vec::new(alloc);
+    let mut found = String::new(alloc);
     let mut was_return = false;
-    for c in cs {
-        add_character(&mut found, was_return, *c)?;
-        was_return = *c == '\r';
+    let mut rest = cs;
+    while let Some((c, after)) = first(rest) {
+        add_character(&mut found, was_return, c)?;
+        was_return = c == '\r';
+        rest = after;
     }
     Ok(found)
 }
 
 #[tactic(auto, unfolding(crate::specs::Document::misc_turn))]
-fn misc_turn(cs: &[char]) -> Result<(bool, &[char]), DocFault>
-    ensures { GivesBy (λ x. (x.0, x.1.now)) result (misc_turn cs.now) }
+fn misc_turn(cs: &str) -> Result<(bool, &str), DocFault>
+    ensures { GivesBy (λ x. (x.0, chars x.1.now)) result (misc_turn (chars cs.now)) }
 {
     let cs = skip_space(cs);
-    match cs {
-        ['<', '!', after @ ..] => Ok((false, remark_at(after)?)),
+    match first(cs) {
+        Some(('<', after)) => match first(after) {
+            Some(('!', after)) => Ok((false, remark_at(after)?)),
+            _ => Ok((true, cs)),
+        },
         _ => Ok((true, cs)),
     }
 }
 
 /// What comes after white space and comments.
-#[tactic(auto, using(wfs_ends::proofs::Turns::until_turn, wfs_ends::proofs::Turns::until_end))]
-fn misc_at(cs: &[char]) -> Result<&[char], DocFault>
-    ensures { GivesBy (λ x. x.now) result (misc_at cs.now) }
+#[tactic(auto, using(wfs_ends::proofs::Turns::until_turn, wfs_ends::proofs::Turns::until_end, crate::proofs::Enough::misc_enough))]
+fn misc_at(cs: &str) -> Result<&str, DocFault>
+    ensures { GivesBy (λ x. chars x.now) result (misc_at (chars cs.now)) }
 {
     let mut rest = cs;
     for _ in 0..cs.len() + 1 {
@@ -87,8 +94,8 @@ fn xml_level(alloc: Global) -> Mem<Level>
 }
 
 #[tactic(auto, unfolding(crate::specs::Document::tree_at))]
-fn tree_at(alloc: Global, cs: &[char]) -> Result<Element, DocFault>
-    ensures { Gives result (tree_at cs.now) }
+fn tree_at(alloc: Global, cs: &str) -> Result<Element, DocFault>
+    ensures { Gives result (tree_at (chars cs.now)) }
 {
     let rest = declaration_at(cs)?;
     let rest = misc_at(rest)?;
@@ -97,32 +104,72 @@ fn tree_at(alloc: Global, cs: &[char]) -> Result<Element, DocFault>
     scope.push(xml_level(alloc)?)?;
     let (root, _, rest) = element(alloc, MAX_DEPTH, &mut scope, 0, rest)?;
     let rest = misc_at(rest)?;
-    if !rest.is_empty() {
+    if !is_empty(rest) {
         return Err(DocFault::Malformed);
     }
     Ok(root)
 }
 
 /// The characters behind a leading byte order mark.
-fn unmarked(cs: &[char]) -> &[char]
-    ensures { result.now ≡ unmarked cs.now }
+fn unmarked(cs: &str) -> &str
+    ensures { chars result.now ≡ unmarked (chars cs.now) }
 {
-    match cs {
-        ['\u{feff}', rest @ ..] => rest,
+    match first(cs) {
+        Some(('\u{feff}', rest)) => rest,
         _ => cs,
     }
 }
 
-fn chars_of(alloc: Global, text: &str) -> Result<Vec<char>, AllocError>
-    ensures { IfOk result (λ v. v.items ≡ chars text.now) }
+/// A character that is not allowed has a byte that is not plain.
+fn is_plain(byte: u8) -> bool
+    ensures { result ≡ is_plain byte }
 {
-    text.chars().collect(alloc)
+    byte >= b' ' && byte != 0xef || byte == b'\t' || byte == b'\n' || byte == b'\r'
 }
 
-fn all_allowed(cs: &[char]) -> bool
-    ensures { result ≡ list_all is_allowed cs.now }
+fn all_plain(bytes: &[u8]) -> bool
+    ensures { result ≡ list_all is_plain bytes.now }
 {
-    cs.iter().all(|c| is_allowed(*c))
+    bytes.iter().all(|b| is_plain(*b))
+}
+
+fn each_allowed(cs: &str) -> bool
+    ensures { result ≡ list_all is_allowed (chars cs.now) }
+{
+    let mut rest = cs;
+    while let Some((c, after)) = first(rest) {
+        if !is_allowed(c) {
+            return false;
+        }
+        rest = after;
+    }
+    true
+}
+
+fn all_allowed(cs: &str) -> bool
+    ensures { result ≡ list_all is_allowed (chars cs.now) }
+{
+    if all_plain(cs.as_bytes()) {
+        return true;
+    }
+    each_allowed(cs)
+}
+
+fn has_return(cs: &str) -> bool
+    ensures { result ≡ list_any (λ c. c == 13) (chars cs.now) }
+{
+    cs.as_bytes().contains(&b'\r')
+}
+
+/// The tree of allowed characters.
+fn tree_of(alloc: Global, cs: &str) -> Result<Element, DocFault>
+    ensures { Gives result (tree_at (line_feeds false (chars cs.now))) }
+{
+    if has_return(cs) {
+        let lines = line_feeds(alloc, cs)?;
+        return tree_at(alloc, lines.as_str());
+    }
+    tree_at(alloc, cs)
 }
 
 #[tactic(auto, using(crate::proofs::Text::is_utf8_yes, crate::proofs::Text::is_utf8_no), unfolding(crate::specs::Document::document))]
@@ -132,12 +179,10 @@ fn read(alloc: Global, bytes: &[u8]) -> Result<Element, DocFault>
     let Ok(text) = str::from_utf8(bytes) else {
         return Err(DocFault::NotText);
     };
-    let cs = chars_of(alloc, text)?;
-    if !all_allowed(&cs) {
+    if !all_allowed(text) {
         return Err(DocFault::NotText);
     }
-    let cs = line_feeds(alloc, unmarked(&cs))?;
-    tree_at(alloc, &cs)
+    tree_of(alloc, unmarked(text))
 }
 
 /// Reads a document.

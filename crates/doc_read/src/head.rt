@@ -1,6 +1,7 @@
 //! What an element's start tag says.
 
 ghost use Rattle.std.specs.Prelude.{◌≡◌, take, vec_len, OnOk};
+ghost use Rattle.std.specs.Str.{chars};
 ghost use Rattle.doc_read.specs.Read.{GivesBy};
 ghost use Rattle.doc_read.specs.Levels.{bounds_of};
 ghost use Rattle.doc_read.specs.Element.{head_of, head_at};
@@ -29,9 +30,9 @@ pub struct Head<'a> {
 pub fn head_at<'a>(
     alloc: Global,
     scope: &mut Vec<Level>,
-    cs: &'a [char],
-) -> Result<(Head<'a>, &'a [char]), DocFault>
-    ensures reads { GivesBy (λ x. (head_of (bounds_of scope.new.items) x.0, x.1.now)) result (head_at (bounds_of scope.old.items) cs.now) }
+    cs: &'a str,
+) -> Result<(Head<'a>, &'a str), DocFault>
+    ensures reads { GivesBy (λ x. (head_of (bounds_of scope.new.items) x.0, chars x.1.now)) result (head_at (bounds_of scope.old.items) (chars cs.now)) }
     ensures outer { OnOk result (take (vec_len scope.old) scope.new.items ≡ scope.old.items) }
 {
     let (tag, rest) = tag_at(alloc, cs)?;
@@ -44,7 +45,7 @@ pub fn head_at<'a>(
     if have_one_name(alloc, &attributes)? {
         return Err(DocFault::Malformed);
     }
-    if has_unknown(alloc, scope, &tag.attributes)? {
+    if has_unknown(scope, &tag.attributes) {
         return Err(DocFault::Prefix);
     }
     let name = element_name(alloc, scope, &tag.name)?;

@@ -2,6 +2,7 @@
 
 ghost use Rattle.std.specs.Prelude.{◌≡◌, map, string_bytes};
 ghost use Rattle.std.specs.List.{list_all};
+ghost use Rattle.std.specs.Str.{chars};
 ghost use Rattle.doc_read.specs.Read.{Gives, GivesBy};
 ghost use Rattle.doc_read.specs.Chars.{holds};
 ghost use Rattle.doc_read.specs.Lex.{spelled};
@@ -22,13 +23,13 @@ pub struct Inside<'a> {
     pub children: Vec<Element>,
     pub text: String,
     pub seen: u32,
-    pub rest: &'a [char],
+    pub rest: &'a str,
 }
 
 /// What comes after a comment, of which the first dashes were read.
 #[tactic(auto, unfolding(crate::specs::Element::comment_at, wfs_ends::specs::Read::unless))]
-fn comment_at(cs: &[char]) -> Result<&[char], DocFault>
-    ensures { GivesBy (λ x. x.now) result (comment_at cs.now) }
+fn comment_at(cs: &str) -> Result<&str, DocFault>
+    ensures { GivesBy (λ x. chars x.now) result (comment_at (chars cs.now)) }
 {
     let (comment, rest) = split_word(Word::CommentEnd, cs)?;
     if contains(Word::Dashes, comment) {
@@ -39,8 +40,8 @@ fn comment_at(cs: &[char]) -> Result<&[char], DocFault>
 
 /// What `<!` begins, where no text may stand.
 #[tactic(auto, unfolding(crate::specs::Element::remark_at))]
-pub fn remark_at(cs: &[char]) -> Result<&[char], DocFault>
-    ensures { GivesBy (λ x. x.now) result (remark_at cs.now) }
+pub fn remark_at(cs: &str) -> Result<&str, DocFault>
+    ensures { GivesBy (λ x. chars x.now) result (remark_at (chars cs.now)) }
 {
     if begins(Word::Dashes, cs) {
         return comment_at(word_at(Word::Dashes, cs)?);
@@ -52,20 +53,20 @@ pub fn remark_at(cs: &[char]) -> Result<&[char], DocFault>
 }
 
 /// What `<!` begins, where text may stand: its text, and what comes after it.
-#[tactic(auto, unfolding(crate::specs::Element::marked_at))]
-pub fn marked_at(cs: &[char]) -> Result<(&[char], &[char]), DocFault>
-    ensures { GivesBy (λ x. (x.0.now, x.1.now)) result (marked_at cs.now) }
+#[tactic(auto, using(crate::proofs::Rests::chars_nil), unfolding(crate::specs::Element::marked_at))]
+pub fn marked_at(cs: &str) -> Result<(&str, &str), DocFault>
+    ensures { GivesBy (λ x. (chars x.0.now, chars x.1.now)) result (marked_at (chars cs.now)) }
 {
     if begins(Word::Section, cs) {
         return split_word(Word::SectionEnd, word_at(Word::Section, cs)?);
     }
-    Ok((&[], remark_at(cs)?))
+    Ok(("", remark_at(cs)?))
 }
 
 /// Characters up to the next markup or reference.
 #[tactic(auto, unfolding(crate::specs::Element::run_at, wfs_ends::specs::Read::unless))]
-pub fn run_at(cs: &[char]) -> Result<(&[char], &[char]), DocFault>
-    ensures { GivesBy (λ x. (x.0.now, x.1.now)) result (run_at cs.now) }
+pub fn run_at(cs: &str) -> Result<(&str, &str), DocFault>
+    ensures { GivesBy (λ x. (chars x.0.now, chars x.1.now)) result (run_at (chars cs.now)) }
 {
     let (run, rest) = split_front(Class::Text, cs);
     if contains(Word::SectionEnd, run) {
@@ -76,8 +77,8 @@ pub fn run_at(cs: &[char]) -> Result<(&[char], &[char]), DocFault>
 
 /// The rest of an end tag.
 #[tactic(auto, unfolding(crate::specs::Element::closed_at))]
-pub fn closed_at<'a>(spelling: &Spelled<'_>, cs: &'a [char]) -> Result<&'a [char], DocFault>
-    ensures { GivesBy (λ x. x.now) result (closed_at (spelled spelling.now) cs.now) }
+pub fn closed_at<'a>(spelling: &Spelled<'_>, cs: &'a str) -> Result<&'a str, DocFault>
+    ensures { GivesBy (λ x. chars x.now) result (closed_at (spelled spelling.now) (chars cs.now)) }
 {
     let (name, rest) = spelled_at(cs)?;
     if !same_spelling(&name, spelling) {

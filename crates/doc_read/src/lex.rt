@@ -1,11 +1,14 @@
 //! Characters and names.
 
 ghost use Rattle.std.specs.Prelude.{◌≡◌, []};
+ghost use Rattle.std.specs.Str.{chars};
 ghost use Rattle.doc_read.specs.Read.{GivesBy};
+ghost use Rattle.doc_read.specs.Rest.{IsRest, Skips};
 ghost use Rattle.doc_read.specs.Chars.{is_allowed, holds, split_front, starts, skip_space, expected_at};
 ghost use Rattle.doc_read.specs.Lex.{name_at, spelled_at, spelled};
 
 use crate::fault::DocFault;
+use crate::front::{before, first};
 
 /// A set of characters.
 #[derive(Clone, Copy)]
@@ -47,72 +50,91 @@ pub fn is_allowed(c: char) -> bool
     matches!(c, '\t' | '\n' | '\r' | ' '..='\u{d7ff}' | '\u{e000}'..='\u{fffd}' | '\u{10000}'..='\u{10ffff}')
 }
 
-/// The longest front of the class, and what comes after it.
-pub fn split_front(class: Class, cs: &[char]) -> (&[char], &[char])
-    ensures { (result.0.now, result.1.now) ≡ split_front class cs.now }
+/// What comes after the first character, where that is of the class.
+#[inline]
+fn after_one(class: Class, text: &str) -> Option<&str>
+    ensures { Skips class result text.now }
 {
-    let mut n = 0;
-    while n < cs.len() && class.holds(cs[n]) {
-        n += 1;
+    match first(text) {
+        Some((c, rest)) if class.holds(c) => Some(rest),
+        _ => None,
     }
-    cs.split_at(n)
 }
 
-pub fn skip_space(cs: &[char]) -> &[char]
-    ensures { result.now ≡ skip_space cs.now }
+/// What comes after the longest front of the class.
+fn skip(class: Class, text: &str) -> &str
+    ensures chars { chars result.now ≡ (split_front class (chars text.now)).1 }
+    ensures rest { IsRest text.now result.now }
 {
-    let (_, rest) = split_front(Class::Space, cs);
+    let mut rest = text;
+    while let Some(after) = after_one(class, rest) {
+        rest = after;
+    }
     rest
 }
 
-pub fn starts(class: Class, cs: &[char]) -> bool
-    ensures { result ≡ starts class cs.now }
+/// The longest front of the class, and what comes after it.
+pub fn split_front(class: Class, text: &str) -> (&str, &str)
+    ensures { (chars result.0.now, chars result.1.now) ≡ split_front class (chars text.now) }
 {
-    match cs {
-        [c, ..] => class.holds(*c),
-        [] => false,
+    let rest = skip(class, text);
+    (before(text, rest), rest)
+}
+
+pub fn skip_space(text: &str) -> &str
+    ensures { chars result.now ≡ skip_space (chars text.now) }
+{
+    skip(Class::Space, text)
+}
+
+pub fn starts(class: Class, text: &str) -> bool
+    ensures { result ≡ starts class (chars text.now) }
+{
+    match first(text) {
+        Some((c, _)) => class.holds(c),
+        None => false,
     }
 }
 
 /// What comes after the character that has to stand here.
-pub fn expected_at(c: char, cs: &[char]) -> Result<&[char], DocFault>
-    ensures { GivesBy (λ x. x.now) result (expected_at c cs.now) }
+pub fn expected_at(c: char, text: &str) -> Result<&str, DocFault>
+    ensures { GivesBy (λ x. chars x.now) result (expected_at c (chars text.now)) }
 {
-    match cs {
-        [d, rest @ ..] if *d == c => Ok(rest),
+    match first(text) {
+        Some((d, rest)) if d == c => Ok(rest),
         _ => Err(DocFault::Malformed),
     }
 }
 
 #[tactic(auto, unfolding(crate::specs::Lex::name_at))]
-pub fn name_at(cs: &[char]) -> Result<(&[char], &[char]), DocFault>
-    ensures { GivesBy (λ x. (x.0.now, x.1.now)) result (name_at cs.now) }
+pub fn name_at(text: &str) -> Result<(&str, &str), DocFault>
+    ensures { GivesBy (λ x. (chars x.0.now, chars x.1.now)) result (name_at (chars text.now)) }
 {
-    match cs {
-        [c, ..] if Class::NameStart.holds(*c) => Ok(split_front(Class::NamePart, cs)),
-        _ => Err(DocFault::Malformed),
+    if !starts(Class::NameStart, text) {
+        return Err(DocFault::Malformed);
     }
+    Ok(split_front(Class::NamePart, text))
 }
 
 /// A name as it is spelled: with no prefix, the prefix is empty.
 #[derive(Clone, Copy)]
 pub struct Spelled<'a> {
-    pub prefix: &'a [char],
-    pub local: &'a [char],
+    pub prefix: &'a str,
+    pub local: &'a str,
 }
 
 /// A name, or two with a colon between.
-#[tactic(auto, unfolding(crate::specs::Lex::spelled_at))]
-pub fn spelled_at(cs: &[char]) -> Result<(Spelled<'_>, &[char]), DocFault>
-    ensures { GivesBy (λ x. (spelled x.0, x.1.now)) result (spelled_at cs.now) }
+#[tactic(auto, using(crate::proofs::Rests::chars_nil), unfolding(crate::specs::Lex::spelled_at))]
+pub fn spelled_at(text: &str) -> Result<(Spelled<'_>, &str), DocFault>
+    ensures { GivesBy (λ x. (spelled x.0, chars x.1.now)) result (spelled_at (chars text.now)) }
 {
-    let (first, rest) = name_at(cs)?;
-    match rest {
-        [':', rest @ ..] => {
-            let (local, rest) = name_at(rest)?;
+    let (name, rest) = name_at(text)?;
+    match first(rest) {
+        Some((':', after)) => {
+            let (local, rest) = name_at(after)?;
             Ok((
                 Spelled {
-                    prefix: first,
+                    prefix: name,
                     local,
                 },
                 rest,
@@ -120,8 +142,8 @@ pub fn spelled_at(cs: &[char]) -> Result<(Spelled<'_>, &[char]), DocFault>
         }
         _ => Ok((
             Spelled {
-                prefix: &[],
-                local: first,
+                prefix: "",
+                local: name,
             },
             rest,
         )),

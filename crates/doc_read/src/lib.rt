@@ -4,6 +4,7 @@
 mod declaration;
 mod document;
 mod fault;
+mod front;
 mod head;
 mod inside;
 mod level;

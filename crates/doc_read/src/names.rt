@@ -2,6 +2,7 @@
 
 ghost use Rattle.std.specs.Prelude.{◌≡◌, ◌++◌, None, map, IfOk, OnOk, encode_utf8_all};
 ghost use Rattle.std.specs.Option.{option_copied};
+ghost use Rattle.std.specs.Str.{chars};
 ghost use Rattle.doc_read.specs.Read.{Gives};
 ghost use Rattle.doc_read.specs.Lex.{raw_of, spelled};
 ghost use Rattle.doc_read.specs.Scope.{newest, space_of, element_name, attribute_of, attributes_in, is_unknown, has_unknown};
@@ -12,6 +13,7 @@ use crate::level::Level;
 use crate::lex::Spelled;
 use crate::scope::{is_declaration, text_of};
 use crate::tag::RawAttribute;
+use crate::front::is_empty;
 use doc_tree::{Attribute, QName};
 use std::alloc::Global;
 use wfs_ends::{Mem, Text};
@@ -38,15 +40,14 @@ fn newest<'s>(scope: &'s [Level], prefix: &str) -> Option<&'s Text>
     found
 }
 
-fn space_of<'s>(alloc: Global, scope: &'s [Level], prefix: &[char]) -> Mem<Option<&'s Text>>
-    ensures { IfOk result (λ space. option_copied space ≡ space_of (bounds_of scope.now) prefix.now) }
+fn space_of<'s>(scope: &'s [Level], prefix: &str) -> Option<&'s Text>
+    ensures { option_copied result ≡ space_of (bounds_of scope.now) (chars prefix.now) }
 {
-    let prefix = text_of(alloc, prefix)?;
-    Ok(newest(scope, prefix.as_str()))
+    newest(scope, prefix)
 }
 
-fn qname(alloc: Global, space: Text, local: &[char]) -> Mem<QName>
-    ensures { IfOk result (λ n. n ≡ record { space = space; local = encode_utf8_all local.now }) }
+fn qname(alloc: Global, space: Text, local: &str) -> Mem<QName>
+    ensures { IfOk result (λ n. n ≡ record { space = space; local = encode_utf8_all (chars local.now) }) }
 {
     Ok(QName {
         space,
@@ -59,10 +60,10 @@ fn qname(alloc: Global, space: Text, local: &[char]) -> Mem<QName>
 pub fn element_name(alloc: Global, scope: &[Level], s: &Spelled<'_>) -> Result<QName, DocFault>
     ensures { Gives result (element_name (bounds_of scope.now) (spelled s.now)) }
 {
-    match space_of(alloc, scope, s.prefix)? {
+    match space_of(scope, s.prefix) {
         Some(space) => Ok(qname(alloc, space.copy(alloc)?, s.local)?),
         None => {
-            if s.prefix.is_empty() {
+            if is_empty(s.prefix) {
                 Ok(qname(alloc, Text::of(alloc, "")?, s.local)?)
             } else {
                 Err(DocFault::Prefix)
@@ -72,7 +73,7 @@ pub fn element_name(alloc: Global, scope: &[Level], s: &Spelled<'_>) -> Result<Q
 }
 
 fn attribute(alloc: Global, space: Text, raw: &RawAttribute<'_>) -> Mem<Attribute>
-    ensures { IfOk result (λ a. a ≡ record { name = record { space = space; local = encode_utf8_all raw.now.name.local.now }; value = raw.now.value }) }
+    ensures { IfOk result (λ a. a ≡ record { name = record { space = space; local = encode_utf8_all (chars raw.now.name.local.now) }; value = raw.now.value }) }
 {
     Ok(Attribute {
         name: qname(alloc, space, raw.name.local)?,
@@ -92,11 +93,11 @@ fn add_attribute(
     if is_declaration(&raw.name) {
         return Ok(());
     }
-    if raw.name.prefix.is_empty() {
+    if is_empty(raw.name.prefix) {
         found.push(attribute(alloc, Text::of(alloc, "")?, raw)?)?;
         return Ok(());
     }
-    match space_of(alloc, scope, raw.name.prefix)? {
+    match space_of(scope, raw.name.prefix) {
         Some(space) => {
             found.push(attribute(alloc, space.copy(alloc)?, raw)?)?;
             Ok(())
@@ -121,24 +122,24 @@ pub fn attributes_in(
     Ok(found)
 }
 
-fn is_unknown(alloc: Global, scope: &[Level], raw: &RawAttribute<'_>) -> Mem<bool>
-    ensures { IfOk result (λ b. b ≡ is_unknown (bounds_of scope.now) (raw_of raw.now)) }
+fn is_unknown(scope: &[Level], raw: &RawAttribute<'_>) -> bool
+    ensures { result ≡ is_unknown (bounds_of scope.now) (raw_of raw.now) }
 {
-    if is_declaration(&raw.name) || raw.name.prefix.is_empty() {
-        return Ok(false);
+    if is_declaration(&raw.name) || is_empty(raw.name.prefix) {
+        return false;
     }
-    Ok(space_of(alloc, scope, raw.name.prefix)?.is_none())
+    space_of(scope, raw.name.prefix).is_none()
 }
 
 /// Whether an attribute has a prefix that is not declared.
 #[tactic(auto, using(crate::proofs::Scopes::unknown_turn, crate::proofs::Scopes::unknown_end))]
-pub fn has_unknown(alloc: Global, scope: &[Level], raws: &[RawAttribute<'_>]) -> Mem<bool>
-    ensures { IfOk result (λ b. b ≡ has_unknown (bounds_of scope.now) (map raw_of raws.now)) }
+pub fn has_unknown(scope: &[Level], raws: &[RawAttribute<'_>]) -> bool
+    ensures { result ≡ has_unknown (bounds_of scope.now) (map raw_of raws.now) }
 {
     for raw in raws {
-        if is_unknown(alloc, scope, raw)? {
-            return Ok(true);
+        if is_unknown(scope, raw) {
+            return true;
         }
     }
-    Ok(false)
+    false
 }

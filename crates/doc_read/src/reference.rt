@@ -1,30 +1,37 @@
 //! References to characters.
 
 ghost use Rattle.std.specs.Prelude.{◌≡◌, ◌≤◌, ◌<◌, Some, None, if◌then◌else◌, min};
+ghost use Rattle.std.specs.Str.{chars};
 ghost use Rattle.doc_read.specs.Read.{Gives, GivesBy};
 ghost use Rattle.doc_read.specs.Chars.{is_allowed};
 ghost use Rattle.doc_read.specs.Lex.{named_reference, name_reference_at, digit, number, number_reference_at, numbered_at, reference_at};
 
 use crate::fault::DocFault;
 use crate::lex::{Class, expected_at, is_allowed, name_at, split_front, starts};
+use crate::front::{first, same};
 
-#[tactic(auto, unfolding(crate::specs::Lex::named_reference))]
-fn named_reference(name: &[char]) -> Result<char, DocFault>
-    ensures { Gives result (named_reference name.now) }
+#[tactic(auto, using(crate::proofs::Rests::word_chars), unfolding(crate::specs::Lex::named_reference))]
+fn named_reference(name: &str) -> Result<char, DocFault>
+    ensures { Gives result (named_reference (chars name.now)) }
 {
-    match name {
-        ['l', 't'] => Ok('<'),
-        ['g', 't'] => Ok('>'),
-        ['a', 'm', 'p'] => Ok('&'),
-        ['q', 'u', 'o', 't'] => Ok('"'),
-        ['a', 'p', 'o', 's'] => Ok('\''),
-        _ => Err(DocFault::Malformed),
+    if same(name, "lt") {
+        Ok('<')
+    } else if same(name, "gt") {
+        Ok('>')
+    } else if same(name, "amp") {
+        Ok('&')
+    } else if same(name, "quot") {
+        Ok('"')
+    } else if same(name, "apos") {
+        Ok('\'')
+    } else {
+        Err(DocFault::Malformed)
     }
 }
 
 #[tactic(auto, unfolding(crate::specs::Lex::name_reference_at))]
-fn name_reference_at(cs: &[char]) -> Result<(char, &[char]), DocFault>
-    ensures { GivesBy (λ x. (x.0, x.1.now)) result (name_reference_at cs.now) }
+fn name_reference_at(cs: &str) -> Result<(char, &str), DocFault>
+    ensures { GivesBy (λ x. (x.0, chars x.1.now)) result (name_reference_at (chars cs.now)) }
 {
     let (name, rest) = name_at(cs)?;
     let rest = expected_at(';', rest)?;
@@ -49,14 +56,16 @@ const NO_CHARACTER: u32 = 0x11_0000;
 
 /// The number that digits write, or the first that is no character where it is greater.
 #[tactic(auto, using(crate::proofs::Numbers::number_turn, crate::proofs::Numbers::number_end))]
-fn number(base: u32, digits: &[char]) -> u32
+fn number(base: u32, digits: &str) -> u32
     requires positive { 0 < base }
     requires small { base ≤ 16 }
-    ensures { result ≡ min (number base 0 digits.now) 0x110000 }
+    ensures { result ≡ min (number base 0 (chars digits.now)) 0x110000 }
 {
     let mut value = 0;
-    for c in digits {
-        value = (value * base + digit(*c)).min(NO_CHARACTER);
+    let mut rest = digits;
+    while let Some((c, after)) = first(rest) {
+        value = (value * base + digit(c)).min(NO_CHARACTER);
+        rest = after;
     }
     value
 }
@@ -71,10 +80,10 @@ fn allowed_char(code: u32) -> Option<char>
 }
 
 #[tactic(auto, using(crate::proofs::Numbers::allowed_capped, crate::proofs::Numbers::capped_is), unfolding(crate::specs::Lex::number_reference_at, wfs_ends::specs::Read::unless))]
-fn number_reference_at(digits: Class, base: u32, cs: &[char]) -> Result<(char, &[char]), DocFault>
+fn number_reference_at(digits: Class, base: u32, cs: &str) -> Result<(char, &str), DocFault>
     requires positive { 0 < base }
     requires small { base ≤ 16 }
-    ensures { GivesBy (λ x. (x.0, x.1.now)) result (number_reference_at digits base cs.now) }
+    ensures { GivesBy (λ x. (x.0, chars x.1.now)) result (number_reference_at digits base (chars cs.now)) }
 {
     if !starts(digits, cs) {
         return Err(DocFault::Malformed);
@@ -89,22 +98,22 @@ fn number_reference_at(digits: Class, base: u32, cs: &[char]) -> Result<(char, &
 
 /// A reference behind its number sign.
 #[tactic(auto, unfolding(crate::specs::Lex::numbered_at))]
-fn numbered_at(cs: &[char]) -> Result<(char, &[char]), DocFault>
-    ensures { GivesBy (λ x. (x.0, x.1.now)) result (numbered_at cs.now) }
+fn numbered_at(cs: &str) -> Result<(char, &str), DocFault>
+    ensures { GivesBy (λ x. (x.0, chars x.1.now)) result (numbered_at (chars cs.now)) }
 {
-    match cs {
-        ['x', digits @ ..] => number_reference_at(Class::Hexadecimal, 16, digits),
+    match first(cs) {
+        Some(('x', digits)) => number_reference_at(Class::Hexadecimal, 16, digits),
         _ => number_reference_at(Class::Decimal, 10, cs),
     }
 }
 
 /// A reference behind its ampersand.
 #[tactic(auto, unfolding(crate::specs::Lex::reference_at))]
-pub fn reference_at(cs: &[char]) -> Result<(char, &[char]), DocFault>
-    ensures { GivesBy (λ x. (x.0, x.1.now)) result (reference_at cs.now) }
+pub fn reference_at(cs: &str) -> Result<(char, &str), DocFault>
+    ensures { GivesBy (λ x. (x.0, chars x.1.now)) result (reference_at (chars cs.now)) }
 {
-    match cs {
-        ['#', after @ ..] => numbered_at(after),
+    match first(cs) {
+        Some(('#', after)) => numbered_at(after),
         _ => name_reference_at(cs),
     }
 }

@@ -1,7 +1,7 @@
 //! Declarations of prefixes.
 
 ghost use Rattle.std.specs.Prelude.{◌≡◌, map, [], ◌∷◌, IfOk, codes, if◌then◌else◌, encode_utf8_all};
-ghost use Rattle.std.specs.Str.{bytes_eq};
+ghost use Rattle.std.specs.Str.{bytes_eq, chars};
 ghost use Rattle.doc_read.specs.Read.{GivesBy};
 ghost use Rattle.doc_read.specs.Lex.{raw_of, spelled};
 ghost use Rattle.doc_read.specs.Scope.{xml_scope, unbinds, declared_step, is_default, is_declaration, is_xml, declaration_of, declared_at};
@@ -9,6 +9,7 @@ ghost use Rattle.doc_read.specs.Scope.{xml_scope, unbinds, declared_step, is_def
 use crate::fault::DocFault;
 use crate::lex::Spelled;
 use crate::tag::RawAttribute;
+use crate::front::{is_empty, same};
 use std::alloc::Global;
 use wfs_ends::{Mem, Text};
 
@@ -29,16 +30,17 @@ pub fn xml_bound(alloc: Global) -> Mem<Bound>
     })
 }
 
-fn is_xmlns(cs: &[char]) -> bool
-    ensures { result ≡ bytes_eq cs.now (codes "xmlns") }
+#[tactic(auto, using(crate::proofs::Rests::word_chars))]
+fn is_xmlns(cs: &str) -> bool
+    ensures { result ≡ bytes_eq (chars cs.now) (codes "xmlns") }
 {
-    matches!(cs, ['x', 'm', 'l', 'n', 's'])
+    same(cs, "xmlns")
 }
 
 fn is_default(s: &Spelled<'_>) -> bool
     ensures { result ≡ is_default (spelled s.now) }
 {
-    s.prefix.is_empty() && is_xmlns(s.local)
+    is_empty(s.prefix) && is_xmlns(s.local)
 }
 
 pub fn is_declaration(s: &Spelled<'_>) -> bool
@@ -47,14 +49,15 @@ pub fn is_declaration(s: &Spelled<'_>) -> bool
     is_xmlns(s.prefix) || is_default(s)
 }
 
+#[tactic(auto, using(crate::proofs::Rests::word_chars))]
 fn is_xml(s: &Spelled<'_>) -> bool
     ensures { result ≡ is_xml (spelled s.now) }
 {
-    !is_default(s) && matches!(s.local, ['x', 'm', 'l'])
+    !is_default(s) && same(s.local, "xml")
 }
 
 fn declared_prefix(alloc: Global, s: &Spelled<'_>) -> Mem<Text>
-    ensures { IfOk result (λ t. t ≡ (if is_default (spelled s.now) then [] else encode_utf8_all s.now.local.now)) }
+    ensures { IfOk result (λ t. t ≡ (if is_default (spelled s.now) then [] else encode_utf8_all (chars s.now.local.now))) }
 {
     if is_default(s) {
         Text::of(alloc, "")
@@ -107,9 +110,8 @@ pub fn declared_at(alloc: Global, raws: &[RawAttribute<'_>]) -> Result<Vec<Bound
     Ok(found)
 }
 
-pub fn text_of(alloc: Global, cs: &[char]) -> Mem<Text>
-    ensures { IfOk result (λ t. t ≡ encode_utf8_all cs.now) }
+pub fn text_of(alloc: Global, cs: &str) -> Mem<Text>
+    ensures { IfOk result (λ t. t ≡ encode_utf8_all (chars cs.now)) }
 {
-    let text: String = cs.iter().copied().collect(alloc)?;
-    Ok(Text::of_string(text))
+    Text::of(alloc, cs)
 }

@@ -1,11 +1,13 @@
 //! Start tags as they stand.
 
 ghost use Rattle.std.specs.Prelude.{◌≡◌, map, length, []};
+ghost use Rattle.std.specs.Str.{chars};
 ghost use Rattle.doc_read.specs.Read.{GivesBy};
 ghost use Rattle.doc_read.specs.Lex.{raw_of, raw_attribute_at, attributes_at, tag_at, tag_of};
 
 use crate::fault::DocFault;
 use crate::lex::{Class, Spelled, expected_at, skip_space, spelled_at, starts};
+use crate::front::first;
 use crate::value::value_at;
 use std::alloc::Global;
 use wfs_ends::Text;
@@ -18,8 +20,8 @@ pub struct RawAttribute<'a> {
 }
 
 #[tactic(auto, unfolding(crate::specs::Lex::raw_attribute_at))]
-fn raw_attribute_at(alloc: Global, cs: &[char]) -> Result<(RawAttribute<'_>, &[char]), DocFault>
-    ensures { GivesBy (λ x. (raw_of x.0, x.1.now)) result (raw_attribute_at cs.now) }
+fn raw_attribute_at(alloc: Global, cs: &str) -> Result<(RawAttribute<'_>, &str), DocFault>
+    ensures { GivesBy (λ x. (raw_of x.0, chars x.1.now)) result (raw_attribute_at (chars cs.now)) }
 {
     let (name, rest) = spelled_at(cs)?;
     let rest = expected_at('=', skip_space(rest))?;
@@ -28,9 +30,9 @@ fn raw_attribute_at(alloc: Global, cs: &[char]) -> Result<(RawAttribute<'_>, &[c
 }
 
 /// The attributes of a tag, and what comes after the white space behind them.
-#[tactic(auto, using(crate::proofs::Tags::attributes_turn, crate::proofs::Tags::attributes_out, std::proofs::lemmas::List::map_push))]
-fn attributes_at(alloc: Global, cs: &[char]) -> Result<(Vec<RawAttribute<'_>>, &[char]), DocFault>
-    ensures { GivesBy (λ x. (map raw_of x.0.items, x.1.now)) result (attributes_at (length cs.now) [] cs.now) }
+#[tactic(auto, using(crate::proofs::Tags::attributes_turn, crate::proofs::Tags::attributes_out, crate::proofs::Enough::attributes_enough, std::proofs::lemmas::List::map_push))]
+fn attributes_at(alloc: Global, cs: &str) -> Result<(Vec<RawAttribute<'_>>, &str), DocFault>
+    ensures { GivesBy (λ x. (map raw_of x.0.items, chars x.1.now)) result (attributes_at (length (chars cs.now)) [] (chars cs.now)) }
 {
     let mut found = Vec::new(alloc);
     let mut rest = cs;
@@ -59,13 +61,13 @@ pub struct Tag<'a> {
 
 /// A start tag behind its less-than sign.
 #[tactic(auto, unfolding(crate::specs::Lex::tag_at))]
-pub fn tag_at(alloc: Global, cs: &[char]) -> Result<(Tag<'_>, &[char]), DocFault>
-    ensures { GivesBy (λ x. (tag_of x.0, x.1.now)) result (tag_at cs.now) }
+pub fn tag_at(alloc: Global, cs: &str) -> Result<(Tag<'_>, &str), DocFault>
+    ensures { GivesBy (λ x. (tag_of x.0, chars x.1.now)) result (tag_at (chars cs.now)) }
 {
     let (name, rest) = spelled_at(cs)?;
     let (attributes, rest) = attributes_at(alloc, rest)?;
-    match rest {
-        ['>', rest @ ..] => Ok((
+    match first(rest) {
+        Some(('>', rest)) => Ok((
             Tag {
                 name,
                 attributes,
@@ -73,14 +75,17 @@ pub fn tag_at(alloc: Global, cs: &[char]) -> Result<(Tag<'_>, &[char]), DocFault
             },
             rest,
         )),
-        ['/', '>', rest @ ..] => Ok((
-            Tag {
-                name,
-                attributes,
-                is_empty: true,
-            },
-            rest,
-        )),
+        Some(('/', after)) => match first(after) {
+            Some(('>', rest)) => Ok((
+                Tag {
+                    name,
+                    attributes,
+                    is_empty: true,
+                },
+                rest,
+            )),
+            _ => Err(DocFault::Malformed),
+        },
         _ => Err(DocFault::Malformed),
     }
 }

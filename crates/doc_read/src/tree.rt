@@ -1,6 +1,7 @@
 //! Elements, and what stands inside them.
 
 ghost use Rattle.std.specs.Prelude.{◌≡◌, ◌<◌, ◌++◌, [], ◌∷◌, map, take, vec_len, OnOk, IfOk, length, string_bytes};
+ghost use Rattle.std.specs.Str.{chars};
 ghost use Rattle.doc_read.specs.Read.{GivesBy};
 ghost use Rattle.doc_read.specs.Levels.{bounds_of};
 ghost use Rattle.doc_read.specs.Element.{inside_of, max_elements, admitted, turn_at, content_at, element_at};
@@ -10,6 +11,7 @@ use crate::head::head_at;
 use crate::inside::{Inside, closed_at, made, marked_at, run_at, tree};
 use crate::level::Level;
 use crate::reference::reference_at;
+use crate::front::first;
 use crate::value::add_characters;
 use doc_tree::Element;
 use std::alloc::Global;
@@ -40,9 +42,9 @@ pub fn element<'a>(
     depth: u32,
     scope: &mut Vec<Level>,
     seen: u32,
-    cs: &'a [char],
-) -> Result<(Element, u32, &'a [char]), DocFault>
-    ensures reads { GivesBy (λ x. (x.0, x.1, x.2.now)) result (element_at depth (bounds_of scope.old.items) seen cs.now) }
+    cs: &'a str,
+) -> Result<(Element, u32, &'a str), DocFault>
+    ensures reads { GivesBy (λ x. (x.0, x.1, chars x.2.now)) result (element_at depth (bounds_of scope.old.items) seen (chars cs.now)) }
     ensures scope { OnOk result (scope.new.items ≡ scope.old.items) }
 {
     let outer = scope.len();
@@ -67,15 +69,15 @@ pub fn element<'a>(
 
 /// What stands inside an element, up to the name in its end tag.
 #[cycle(tree)]
-#[tactic(auto, using(wfs_ends::proofs::Turns::until_turn, wfs_ends::proofs::Turns::until_end), unfolding(crate::specs::Element::content_at))]
+#[tactic(auto, using(wfs_ends::proofs::Turns::until_turn, wfs_ends::proofs::Turns::until_end, crate::proofs::Enough::content_enough), unfolding(crate::specs::Element::content_at))]
 fn content<'a>(
     alloc: Global,
     depth: u32,
     scope: &mut Vec<Level>,
     seen: u32,
-    cs: &'a [char],
+    cs: &'a str,
 ) -> Result<Inside<'a>, DocFault>
-    ensures reads { GivesBy inside_of result (content_at (element_at depth (bounds_of scope.old.items)) seen cs.now) }
+    ensures reads { GivesBy inside_of result (content_at (element_at depth (bounds_of scope.old.items)) seen (chars cs.now)) }
     ensures scope { OnOk result (scope.new.items ≡ scope.old.items) }
 {
     let mut inside = Inside {
@@ -112,45 +114,47 @@ fn turn<'a>(
         seen,
         rest,
     } = inside;
-    match rest {
-        [] => Err(DocFault::Malformed),
-        ['<'] => Err(DocFault::Malformed),
-        ['<', '/', rest @ ..] => Ok((
-            true,
-            Inside {
-                children,
-                text,
-                seen,
-                rest,
-            },
-        )),
-        ['<', '!', after @ ..] => {
-            let (section, rest) = marked_at(after)?;
-            add_characters(&mut text, section)?;
-            Ok((
-                false,
+    match first(rest) {
+        None => Err(DocFault::Malformed),
+        Some(('<', after)) => match first(after) {
+            None => Err(DocFault::Malformed),
+            Some(('/', rest)) => Ok((
+                true,
                 Inside {
                     children,
                     text,
                     seen,
                     rest,
                 },
-            ))
-        }
-        ['<', after @ ..] => {
-            let (child, seen, rest) = element(alloc, depth, scope, seen, after)?;
-            children.push(child)?;
-            Ok((
-                false,
-                Inside {
-                    children,
-                    text,
-                    seen,
-                    rest,
-                },
-            ))
-        }
-        ['&', after @ ..] => {
+            )),
+            Some(('!', after)) => {
+                let (section, rest) = marked_at(after)?;
+                add_characters(&mut text, section)?;
+                Ok((
+                    false,
+                    Inside {
+                        children,
+                        text,
+                        seen,
+                        rest,
+                    },
+                ))
+            }
+            Some(_) => {
+                let (child, seen, rest) = element(alloc, depth, scope, seen, after)?;
+                children.push(child)?;
+                Ok((
+                    false,
+                    Inside {
+                        children,
+                        text,
+                        seen,
+                        rest,
+                    },
+                ))
+            }
+        },
+        Some(('&', after)) => {
             let (c, rest) = reference_at(after)?;
             text.push(c)?;
             Ok((
@@ -163,7 +167,7 @@ fn turn<'a>(
                 },
             ))
         }
-        _ => {
+        Some(_) => {
             let (run, rest) = run_at(rest)?;
             add_characters(&mut text, run)?;
             Ok((

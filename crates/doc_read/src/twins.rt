@@ -6,6 +6,7 @@ ghost use Rattle.doc_read.specs.Scope.{has_twins, written, spellings, expanded, 
 
 use crate::lex::Spelled;
 use crate::tag::RawAttribute;
+use crate::front::same;
 use crate::value::add_characters;
 use doc_tree::{Attribute, QName};
 use std::alloc::Global;
@@ -15,7 +16,7 @@ use wfs_ends::{Mem, Text};
 pub fn same_spelling(a: &Spelled<'_>, b: &Spelled<'_>) -> bool
     ensures { result ≡ same_spelling (spelled a.now) (spelled b.now) }
 {
-    a.prefix == b.prefix && a.local == b.local
+    same(a.prefix, b.prefix) && same(a.local, b.local)
 }
 
 fn written(alloc: Global, s: &Spelled<'_>) -> Mem<Text>
@@ -75,17 +76,25 @@ fn has_twins(alloc: Global, texts: &[Text]) -> Mem<bool>
 }
 
 /// Whether two attributes have one spelling.
+#[tactic(auto, using(crate::proofs::Repeats::few_spellings))]
 pub fn have_one_spelling(alloc: Global, raws: &[RawAttribute<'_>]) -> Mem<bool>
     ensures { IfOk result (λ b. b ≡ has_twins (spellings (map raw_of raws.now))) }
 {
+    if raws.len() < 2 {
+        return Ok(false);
+    }
     let texts = spellings(alloc, raws)?;
     has_twins(alloc, &texts)
 }
 
 /// Whether two attributes have one expanded name.
+#[tactic(auto, using(crate::proofs::Repeats::few_names))]
 pub fn have_one_name(alloc: Global, attributes: &[Attribute]) -> Mem<bool>
     ensures { IfOk result (λ b. b ≡ has_twins (expanded_names attributes.now)) }
 {
+    if attributes.len() < 2 {
+        return Ok(false);
+    }
     let texts = expanded_names(alloc, attributes)?;
     has_twins(alloc, &texts)
 }

@@ -1,23 +1,21 @@
 //! Character data, and the values of attributes.
 
 ghost use Rattle.std.specs.Prelude.{◌≡◌, ◌++◌, map, OnOk, string_bytes, encode_utf8_all};
+ghost use Rattle.std.specs.Str.{chars};
 ghost use Rattle.doc_read.specs.Read.{GivesBy};
 ghost use Rattle.doc_read.specs.Lex.{part, plain, value_turn, inside_value, value_at};
 
 use crate::fault::DocFault;
 use crate::lex::{Class, split_front};
 use crate::reference::reference_at;
+use crate::front::first;
 use std::alloc::{AllocError, Global};
 use wfs_ends::Text;
 
-#[tactic(auto, using(crate::proofs::Text::encodes_turn, crate::proofs::Text::encodes_end, std::proofs::Common::append_assoc))]
-pub fn add_characters(text: &mut String, cs: &[char]) -> Result<(), AllocError>
-    ensures { OnOk result (string_bytes text.new ≡ string_bytes text.old ++ encode_utf8_all cs.now) }
+pub fn add_characters(text: &mut String, cs: &str) -> Result<(), AllocError>
+    ensures { OnOk result (string_bytes text.new ≡ string_bytes text.old ++ encode_utf8_all (chars cs.now)) }
 {
-    for c in cs {
-        text.push(*c)?;
-    }
-    Ok(())
+    text.push_str(cs)
 }
 
 fn plain(c: char) -> char
@@ -28,11 +26,13 @@ fn plain(c: char) -> char
 
 /// White space in a value counts as spaces.
 #[tactic(auto, using(crate::proofs::Text::plain_turn, crate::proofs::Text::plain_end, std::proofs::Common::append_assoc))]
-fn add_plain(text: &mut String, cs: &[char]) -> Result<(), AllocError>
-    ensures { OnOk result (string_bytes text.new ≡ string_bytes text.old ++ encode_utf8_all (map plain cs.now)) }
+fn add_plain(text: &mut String, cs: &str) -> Result<(), AllocError>
+    ensures { OnOk result (string_bytes text.new ≡ string_bytes text.old ++ encode_utf8_all (map plain (chars cs.now))) }
 {
-    for c in cs {
-        text.push(plain(*c))?;
+    let mut rest = cs;
+    while let Some((c, after)) = first(rest) {
+        text.push(plain(c))?;
+        rest = after;
     }
     Ok(())
 }
@@ -42,20 +42,20 @@ fn add_plain(text: &mut String, cs: &[char]) -> Result<(), AllocError>
 fn value_turn<'a>(
     quote: char,
     text: &mut String,
-    cs: &'a [char],
-) -> Result<(bool, &'a [char]), DocFault>
-    ensures { GivesBy (λ x. (x.0, part (string_bytes text.new) x.1.now)) result (value_turn quote (part (string_bytes text.old) cs.now)) }
+    cs: &'a str,
+) -> Result<(bool, &'a str), DocFault>
+    ensures { GivesBy (λ x. (x.0, part (string_bytes text.new) (chars x.1.now))) result (value_turn quote (part (string_bytes text.old) (chars cs.now))) }
 {
-    match cs {
-        [] => Err(DocFault::Malformed),
-        [c, rest @ ..] if *c == quote => Ok((true, rest)),
-        ['<', ..] => Err(DocFault::Malformed),
-        ['&', after @ ..] => {
+    match first(cs) {
+        None => Err(DocFault::Malformed),
+        Some((c, rest)) if c == quote => Ok((true, rest)),
+        Some(('<', _)) => Err(DocFault::Malformed),
+        Some(('&', after)) => {
             let (c, rest) = reference_at(after)?;
             text.push(c)?;
             Ok((false, rest))
         }
-        _ => {
+        Some(_) => {
             let (front, rest) = split_front(Class::Value(quote), cs);
             add_plain(text, front)?;
             Ok((false, rest))
@@ -64,9 +64,9 @@ fn value_turn<'a>(
 }
 
 /// A value behind its quote.
-#[tactic(auto, using(wfs_ends::proofs::Turns::until_turn, wfs_ends::proofs::Turns::until_end))]
-fn inside_value(alloc: Global, quote: char, cs: &[char]) -> Result<(String, &[char]), DocFault>
-    ensures { GivesBy (λ x. part (string_bytes x.0) x.1.now) result (inside_value quote cs.now) }
+#[tactic(auto, using(wfs_ends::proofs::Turns::until_turn, wfs_ends::proofs::Turns::until_end, crate::proofs::Enough::value_enough))]
+fn inside_value(alloc: Global, quote: char, cs: &str) -> Result<(String, &str), DocFault>
+    ensures { GivesBy (λ x. part (string_bytes x.0) (chars x.1.now)) result (inside_value quote (chars cs.now)) }
 {
     let mut text = String::new(alloc);
     let mut rest = cs;
@@ -81,12 +81,12 @@ fn inside_value(alloc: Global, quote: char, cs: &[char]) -> Result<(String, &[ch
 }
 
 #[tactic(auto, unfolding(crate::specs::Lex::value_at))]
-pub fn value_at(alloc: Global, cs: &[char]) -> Result<(Text, &[char]), DocFault>
-    ensures { GivesBy (λ x. (x.0, x.1.now)) result (value_at cs.now) }
+pub fn value_at(alloc: Global, cs: &str) -> Result<(Text, &str), DocFault>
+    ensures { GivesBy (λ x. (x.0, chars x.1.now)) result (value_at (chars cs.now)) }
 {
-    match cs {
-        [quote @ ('"' | '\''), after @ ..] => {
-            let (text, rest) = inside_value(alloc, *quote, after)?;
+    match first(cs) {
+        Some((quote @ ('"' | '\''), after)) => {
+            let (text, rest) = inside_value(alloc, quote, after)?;
             Ok((Text::of_string(text), rest))
         }
         _ => Err(DocFault::Malformed),

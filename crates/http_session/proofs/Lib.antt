@@ -10,6 +10,7 @@ pub mod Sizes
 pub mod Spots
 pub mod Turns
 pub mod LineLaws
+pub mod TrailerLaws
 pub mod Follows
 pub mod Unique
 pub mod Readings

@@ -1,7 +1,8 @@
 -- What the reader's steps come to.
-use Rattle.std.proofs.Common.{◌≡◌, ℕ, ◌≤◌, Bool, true, false, List, [], ◌++◌, length, drop, refl, sym, ap, subst, ◌∙◌, arith, append-nil, Option, Some, None}
+use Rattle.std.proofs.Common.{◌≡◌, inl, inr, ℕ, ◌<◌, ◌≤◌, Bool, true, false, List, [], ◌++◌, length, drop, refl, sym, ap, subst, ◌∙◌, arith, append-nil, Option, Some, None}
 use Rattle.std.specs.Prelude.{Ok, Err, IfSome}
-use Rattle.wfs_ends.specs.Ends.{Shown, Rose, KeepsGiven, GivesAll, given_more}
+use Rattle.wfs_ends.specs.Ends.{Shown, Rose, AllGrow, KeepsGiven, GivesAll, given_more}
+use Rattle.wfs_ends.proofs.Given.{all_grow, keeps_none}
 use Rattle.httparse.specs.Grammar.{print_request, ReadsRequest}
 use Rattle.httparse.proofs.GrammarLemmas.{ReadsRequest-append}
 use Rattle.httparse.specs.declared.spans.HeaderSpan.{HeaderSpan}
@@ -12,11 +13,14 @@ use Rattle.http_session.specs.declared.message.Next.{Next}
 use Rattle.http_session.specs.declared.message.Next.TheVariants as next
 use Rattle.http_session.specs.declared.plan.Plan.{Plan}
 use Rattle.http_session.specs.declared.start.Start.{Start}
-use Rattle.http_session.specs.Heads.{head, no_head, head_limit, EndsWithoutHead}
+use Rattle.http_session.specs.Heads.{head, no_head, head_limit, IsUndecided, EndsWithoutHead}
+use Rattle.std.specs.List.{list_all}
+use Rattle.http_session.specs.Cuts.{is_line_byte}
 use Rattle.http_session.specs.Fields.{judged}
 use Rattle.http_session.specs.Frames.{Frame, ended, is_due, BodyFound, content, no_content, framed, IsBody, HasBody, IsFramed, IsNext}
-use Rattle.http_session.specs.Reading.{after_buffer, ahead, Moved, HeadAt}
-use Rattle.http_session.specs.Answers.{Answers, OnlyDue, Written, Stays, ReadsBy, Reads, IsBodyNext, IsAsked, interim, next_of}
+use Rattle.http_session.specs.Reading.{after_buffer, ahead, Moved, Reached, IsFault, HeadAt}
+use Rattle.http_session.specs.Answers.{Answers, OnlyDue, Written, HasPlan, Awaits, Breaks, IsPlanned, AwaitsBody, Stays, Reads, ReadsRest, IsBodyNext, IsAsked, interim, next_of}
+use Rattle.http_session.proofs.Spots.{after_twice}
 use Rattle.http_session.proofs.Unique.{frames_of_head}
 
 -- ---- options
@@ -58,6 +62,14 @@ no_read_fault ending.TooLarge a is k = absurd cc
 no_read_fault ending.NoLength a is k = absurd cc
 no_read_fault ending.Coding a is k = absurd cc
 
+no_memory : (e : Ending) (a : Next) → a ≡ next_of e → ¬ (a ≡ next.OutOfMemory)
+no_memory ending.End a is k = absurd cc
+no_memory ending.Cut a is k = absurd cc
+no_memory ending.BadHead a is k = absurd cc
+no_memory ending.TooLarge a is k = absurd cc
+no_memory ending.NoLength a is k = absurd cc
+no_memory ending.Coding a is k = absurd cc
+
 no_write_fault : (e : Ending) (a : Next) → a ≡ next_of e → ¬ (a ≡ next.WriteFault)
 no_write_fault ending.End a is k = absurd cc
 no_write_fault ending.Cut a is k = absurd cc
@@ -73,6 +85,7 @@ body_ended start e a b b' s t is h = record {
   answers = if_map (λ bytes. IsBody start.plan.body bytes (no_content e)) (λ bytes. Answers (HasBody start.method start.target start.plan bytes) start.plan.due a (ahead b' t)) (ahead b s)
       (λ bytes k. answers_ended (HasBody start.method start.target start.plan bytes) start.plan.due e a (ahead b' t) is (no_content e, k, refl)) h;
   fault = λ k. absurd (no_read_fault e a is k);
+  memory = λ k. absurd (no_memory e a is k);
   read = λ k. no_write_fault e a is k;
 }
 
@@ -83,18 +96,19 @@ given_none None = refl
 given_none (Some g) = ap Some (sym (append-nil g))
 
 pub asked_not : (due : Bool) (s : Shown) → due ≡ false → IsAsked due false s s
-asked_not due s is = rw is (record { given = given_none s.given; keeps = record { left = refl; takes = refl; puts = omega arith; place = refl } })
+asked_not due s is = rw is (record { given = given_none s.given; keeps = keeps_none s })
 
 frame_due : (method target : List ℕ) (plan : Plan) (found : BodyFound) → is_due (framed method target plan found) ≡ plan.due
 frame_due method target plan (content found rest) = refl
 frame_due method target plan (no_content e) = refl
 
-pub ask_failed : (start : Start) (b b' : List ℕ) (s t : Shown) → IsAsked start.plan.due true s t → ReadsBy (HasBody start.method start.target start.plan) b s next.WriteFault b' t
+pub ask_failed : (start : Start) (b b' : List ℕ) (s t : Shown) → IsAsked start.plan.due true s t → ReadsRest start b s next.WriteFault b' t
 ask_failed start b b' s t (due, front) = record {
   due = true;
   answers = each (ahead b s);
   written = (refl, record { front = front.front; rest = front.rest; parts = front.parts; given = front.given; cause = front.cause });
-  stays = record { takes = omega (arith, front.keeps.takes); puts = front.keeps.puts; place = front.keeps.place };
+  breaks = (record { taken = b; parts = ap (after_buffer b) (sym front.keeps.left) }, sym due);
+  stays = record { takes = omega (arith, front.keeps.takes); passed = front.keeps.passed; puts = front.keeps.puts; place = front.keeps.place };
 }
   where
     each : (o : Option (List ℕ)) → IfSome o (λ bytes. OnlyDue true (HasBody start.method start.target start.plan bytes))
@@ -113,21 +127,36 @@ written_by due next.ReadFault s m t g k fault read = (k.given ∙ g.given, let r
 written_by due next.WriteFault s m t g k fault read = absurd (read refl)
 written_by due next.OutOfMemory s m t g k fault read = k.given ∙ g.given
 
-stays_by : (text : List ℕ) (s m t : Shown) → GivesAll s text m → KeepsGiven m t → Stays s t
-stays_by text s m t g k = record { takes = omega (arith, g.keeps.takes, k.takes); puts = omega (arith, g.keeps.puts, k.puts); place = k.place ∙ g.keeps.place }
+-- where the rest of a message breaks off
+breaks_by : (plan : Plan) (a : Next) (b : List ℕ) (s m t : Shown) → m.left ≡ s.left → (a ≡ next.ReadFault → (q : IsFault (ahead b m) m t) × IsBody plan.body q.reached.taken (no_content ending.Cut)) → (a ≡ next.OutOfMemory → Reached (ahead b m) t) → (a ≡ next.WriteFault → ⊥)
+    → Breaks (AwaitsBody plan) (IsPlanned plan) plan.due a (ahead b s) t
+breaks_by plan (next.Message x) b s m t e fault memory read = tt
+breaks_by plan next.End b s m t e fault memory read = tt
+breaks_by plan next.BadHead b s m t e fault memory read = tt
+breaks_by plan next.TooLarge b s m t e fault memory read = tt
+breaks_by plan next.NoLength b s m t e fault memory read = tt
+breaks_by plan next.Coding b s m t e fault memory read = tt
+breaks_by plan next.Cut b s m t e fault memory read = tt
+breaks_by plan next.ReadFault b s m t e fault memory read = let f = fault refl in (record { taken = f.0.reached.taken; parts = ap (after_buffer b) (sym e) ∙ f.0.reached.parts }, (f.1, refl))
+breaks_by plan next.WriteFault b s m t e fault memory read = absurd (read refl)
+breaks_by plan next.OutOfMemory b s m t e fault memory read = (subst (λ left. Reached (after_buffer b left) t) e (memory refl), λ yes. sym yes)
 
-pub rest_read : (start : Start) (a : Next) (b b' : List ℕ) (s m t : Shown) → IsAsked start.plan.due false s m → IsBodyNext start a b m b' t → KeepsGiven m t → ReadsBy (HasBody start.method start.target start.plan) b s a b' t
+stays_by : (text : List ℕ) (s m t : Shown) → GivesAll s text m → KeepsGiven m t → Stays s t
+stays_by text s m t g k = record { takes = omega (arith, g.keeps.takes, k.takes); passed = subst (λ (p : List (Option (List ℕ))). AllGrow s.passed p) (sym k.passed) g.keeps.passed; puts = omega (arith, g.keeps.puts, k.puts); place = k.place ∙ g.keeps.place }
+
+pub rest_read : (start : Start) (a : Next) (b b' : List ℕ) (s m t : Shown) → IsAsked start.plan.due false s m → IsBodyNext start a b m b' t → KeepsGiven m t → ReadsRest start b s a b' t
 rest_read start a b b' s m t g n k = record {
   due = start.plan.due;
   answers = subst (λ left. IfSome (after_buffer b left) (λ bytes. Answers (HasBody start.method start.target start.plan bytes) start.plan.due a (ahead b' t))) g.keeps.left n.answers;
-  written = written_by start.plan.due a s m t g k n.fault n.read;
+  written = written_by start.plan.due a s m t g k (λ e. (n.fault e).0.cause) n.read;
+  breaks = breaks_by start.plan a b s m t g.keeps.left n.fault n.memory n.read;
   stays = stays_by (interim start.plan.due) s m t g k;
 }
 
 -- ---- the head
 
 stays_same : (s : Shown) → Stays s s
-stays_same s = record { takes = omega arith; puts = omega arith; place = refl }
+stays_same s = record { takes = omega arith; passed = all_grow s.passed; puts = omega arith; place = refl }
 
 written_none : (e : Ending) (a : Next) (s : Shown) → a ≡ next_of e → Written false a s s
 written_none ending.End a s is = rw is (given_none s.given)
@@ -137,12 +166,53 @@ written_none ending.TooLarge a s is = rw is (given_none s.given)
 written_none ending.NoLength a s is = rw is (given_none s.given)
 written_none ending.Coding a s is = rw is (given_none s.given)
 
+breaks_none : (due : Bool) (e : Ending) (a : Next) (o : Option (List ℕ)) (t : Shown) → a ≡ next_of e → Breaks Awaits HasPlan due a o t
+breaks_none due ending.End a o t is = rw is tt
+breaks_none due ending.Cut a o t is = rw is tt
+breaks_none due ending.BadHead a o t is = rw is tt
+breaks_none due ending.TooLarge a o t is = rw is tt
+breaks_none due ending.NoLength a o t is = rw is tt
+breaks_none due ending.Coding a o t is = rw is tt
+
+not_due : (P : List ℕ → Frame → Type 0) (o : Option (List ℕ)) → IfSome o (λ bytes. OnlyDue false (P bytes))
+not_due P None = tt
+not_due P (Some bytes) = λ frame is yes. absurd cc
+
+-- bytes that decide nothing end within a head, or between two messages
+undecided : (bytes : List ℕ) → IsUndecided bytes → length bytes < head_limit → Awaits bytes false
+undecided bytes none short = by (list_all is_line_byte bytes) refl
+  where
+    by : (t : Bool) → list_all is_line_byte bytes ≡ t → Awaits bytes false
+    by true e = inl (no_head ending.End, (none, short, e), refl)
+    by false e = inr (no_head ending.Cut, (none, short, e), refl)
+
+-- the link failed within a head
+pub head_failed : (b c : List ℕ) (s t : Shown) → Moved b s c t → IsUndecided c → length c < head_limit → Rose s.failed_takes t.failed_takes → Reads b s next.ReadFault c t
+head_failed b c s t m none short rose = record {
+  due = false;
+  answers = not_due IsNext (ahead b s);
+  written = (m.keeps.given ∙ given_none s.given, rose);
+  breaks = (record { taken = c; parts = sym m.same }, undecided c none short);
+  stays = record { takes = m.keeps.takes; passed = subst (λ (p : List (Option (List ℕ))). AllGrow s.passed p) (sym m.keeps.passed) (all_grow s.passed); puts = let k = m.keeps.puts in omega (arith, k); place = m.keeps.place };
+}
+
+-- no memory for what the head says
+pub head_memory : (b : List ℕ) (s : Shown) → Reads b s next.OutOfMemory b s
+head_memory b s = record {
+  due = false;
+  answers = not_due IsNext (ahead b s);
+  written = given_none s.given;
+  breaks = (record { taken = b; parts = refl }, λ yes. absurd cc);
+  stays = stays_same s;
+}
+
 -- the bytes end without a head
 pub head_ended : (e : Ending) (a : Next) (b : List ℕ) (s : Shown) → a ≡ next_of e → IfSome (ahead b s) (λ bytes. EndsWithoutHead bytes e) → Reads b s a b s
 head_ended e a b s is h = record {
   due = false;
   answers = if_map (λ bytes. EndsWithoutHead bytes e) (λ bytes. Answers (IsNext bytes) false a (ahead b s)) (ahead b s) (λ bytes k. answers_ended (IsNext bytes) false e a (ahead b s) is (no_head e, k, refl)) h;
   written = written_none e a s is;
+  breaks = breaks_none false e a (ahead b s) s is;
   stays = stays_same s;
 }
 
@@ -158,6 +228,7 @@ head_refused e a b headers spans s at le is refused = record {
   due = false;
   answers = each s.left;
   written = written_none e a s is;
+  breaks = breaks_none false e a (ahead b s) s is;
   stays = stays_same s;
 }
   where
@@ -169,16 +240,42 @@ head_refused e a b headers spans s at le is refused = record {
 -- the body follows the head
 pub head_followed : (start : Start) (a : Next) (b c b' : List ℕ) (headers : List HeaderSpan) (spans : RequestSpans) (s t : Shown) (at : HeadAt b headers spans) → length b ≤ head_limit
     → start.method ≡ at.head.method → start.target ≡ at.head.target → judged at.head ≡ Ok start.plan → c ≡ drop spans.len b
-    → ReadsBy (HasBody start.method start.target start.plan) c s a b' t → Reads b s a b' t
+    → ReadsRest start c s a b' t → Reads b s a b' t
 head_followed start a b c b' headers spans s t at le method target plan skip r = record {
   due = r.due;
   answers = each s.left (subst (λ (x : List ℕ). IfSome (after_buffer x s.left) (λ bytes. Answers (HasBody start.method start.target start.plan bytes) r.due a (ahead b' t))) skip r.answers);
   written = r.written;
+  breaks = broken a r.breaks;
   stays = r.stays;
 }
   where
     same : (rest : List ℕ) (frame : Frame) → HasBody start.method start.target start.plan rest frame → IsFramed at.head (judged at.head) rest frame
     same rest frame h = subst (λ r. IsFramed at.head r rest frame) (sym plan) (subst (λ (x : List ℕ). HasBody x at.head.target start.plan rest frame) method (subst (λ (x : List ℕ). HasBody start.method x start.plan rest frame) target h))
+
+    planned : (taken : List ℕ) (due : Bool) → due ≡ start.plan.due → HasPlan (print_request at.head ++ taken) due
+    planned taken due e = (at.head, taken, ((at.at.reads.0, refl), head_short b headers spans at le), start.plan, plan, e)
+
+    awaits : (taken : List ℕ) (due : Bool) → IsBody start.plan.body taken (no_content ending.Cut) → due ≡ start.plan.due → IsNext (print_request at.head ++ taken) (ended ending.Cut due)
+    awaits taken due is e = (head at.head taken, ((at.at.reads.0, refl), head_short b headers spans at le), same taken (ended ending.Cut due) (no_content ending.Cut, is, ap (ended ending.Cut) e))
+
+    reached : (q : Reached (ahead c s) t) → Reached (ahead b s) t
+    reached q = record {
+      taken = print_request at.head ++ q.taken;
+      parts = ap (λ (x : List ℕ). after_buffer x s.left) (at.at.reads.1 ∙ ap (λ (x : List ℕ). print_request at.head ++ x) (sym skip))
+          ∙ sym (after_twice (print_request at.head) c s.left) ∙ ap (after_buffer (print_request at.head)) q.parts ∙ after_twice (print_request at.head) q.taken t.left;
+    }
+
+    broken : (x : Next) → Breaks (AwaitsBody start.plan) (IsPlanned start.plan) r.due x (ahead c s) t → Breaks Awaits HasPlan r.due x (ahead b s) t
+    broken (next.Message m) h = tt
+    broken next.End h = tt
+    broken next.BadHead h = tt
+    broken next.TooLarge h = tt
+    broken next.NoLength h = tt
+    broken next.Coding h = tt
+    broken next.Cut h = tt
+    broken next.ReadFault h = (reached h.0, inr (awaits h.0.taken r.due h.1.0 h.1.1))
+    broken next.WriteFault h = (reached h.0, planned h.0.taken true h.1)
+    broken next.OutOfMemory h = (reached h.0, λ yes. planned h.0.taken true (h.1 yes))
 
     back : (rest : List ℕ) (frame : Frame) → IsFramed at.head (judged at.head) rest frame → HasBody start.method start.target start.plan rest frame
     back rest frame h = subst (λ (x : List ℕ). HasBody start.method x start.plan rest frame) (sym target) (subst (λ (x : List ℕ). HasBody x at.head.target start.plan rest frame) (sym method) (subst (λ r. IsFramed at.head r rest frame) plan h))
@@ -210,14 +307,15 @@ reads_moved a b c b' s m t moved r = record {
   due = r.due;
   answers = subst (λ o. IfSome o (λ bytes. Answers (IsNext bytes) r.due a (ahead b' t))) moved.same r.answers;
   written = written_moved r.due a s m t moved.keeps r.written;
-  stays = record { takes = omega (arith, moved.keeps.takes, r.stays.takes); puts = omega (arith, moved.keeps.puts, r.stays.puts); place = r.stays.place ∙ moved.keeps.place };
+  breaks = subst (λ o. Breaks Awaits HasPlan r.due a o t) moved.same r.breaks;
+  stays = record { takes = omega (arith, moved.keeps.takes, r.stays.takes); passed = subst (λ (p : List (Option (List ℕ))). AllGrow p t.passed) moved.keeps.passed r.stays.passed; puts = omega (arith, moved.keeps.puts, r.stays.puts); place = r.stays.place ∙ moved.keeps.place };
 }
 
 -- ---- a link's source and its sink are one
 
-pub ask_failed_at : (start : Start) (b b' : List ℕ) (s s' t t' : Shown) → s ≡ s' → t ≡ t' → IsAsked start.plan.due true s' t' → ReadsBy (HasBody start.method start.target start.plan) b s next.WriteFault b' t
+pub ask_failed_at : (start : Start) (b b' : List ℕ) (s s' t t' : Shown) → s ≡ s' → t ≡ t' → IsAsked start.plan.due true s' t' → ReadsRest start b s next.WriteFault b' t
 ask_failed_at start b b' s s' t t' e k h = ask_failed start b b' s t (subst (λ x. IsAsked start.plan.due true x t) (sym e) (subst (λ x. IsAsked start.plan.due true s' x) (sym k) h))
 
 pub rest_read_at : (start : Start) (a : Next) (b b' : List ℕ) (s s' m m' t : Shown) → s ≡ s' → m ≡ m' → IsAsked start.plan.due false s' m' → IsBodyNext start a b m b' t → KeepsGiven m t
-    → ReadsBy (HasBody start.method start.target start.plan) b s a b' t
+    → ReadsRest start b s a b' t
 rest_read_at start a b b' s s' m m' t e k h n keeps = rest_read start a b b' s m t (subst (λ x. IsAsked start.plan.due false x m) (sym e) (subst (λ x. IsAsked start.plan.due false s' x) (sym k) h)) n keeps

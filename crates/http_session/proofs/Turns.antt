@@ -11,25 +11,15 @@ use Rattle.http_session.specs.declared.chunks.Begun.{Begun}
 use Rattle.http_session.specs.declared.chunks.Begun.TheVariants as begun
 use Rattle.http_session.specs.declared.chunks.ChunkRead.{ChunkRead}
 use Rattle.http_session.specs.declared.chunks.ChunkRead.TheVariants as chunkread
-use Rattle.http_session.specs.Chunks.{line, no_line, part_line, Stop, whole, wrong, large, part, Turn, stops, is_empty_line, begun_more, after_trailer, after_return, after_data, chunk_of, turn_of}
+use Rattle.http_session.specs.Chunks.{line, no_line, part_line, Stop, whole, wrong, large, part, Turn, goes, stops, after_return, after_data, chunk_of}
 use Rattle.http_session.specs.Lines.{line_of}
 use Rattle.http_session.specs.Reading.{after_buffer, ahead, Moved}
-use Rattle.http_session.specs.Spots.{Spot, spot, window, Moves, part_ending, stop_ending, Alike, IsBroken, IsTurn, IsCopied, trailer_step}
-use Rattle.http_session.proofs.Spots.{moves_on, part_same, window_after, after_none, after_twice}
+use Rattle.http_session.specs.Spots.{Spot, spot, Moves, Passes, part_ending, stop_ending, Alike, IsBroken, IsTurn, IsCopied, is_empty_line, begun_more, after_trailer, trailer_step, turn_of}
+use Rattle.http_session.proofs.Spots.{passes_on, passes_alike, fault_on, reached_on, part_same, after_none, after_twice}
 
 pub alike_byte : {X : Type 0} (f g : List ℕ → X) (b : ℕ) (v w : Option (List ℕ)) → v ≡ after_buffer (b ∷ []) w → ((x : List ℕ) → f (b ∷ x) ≡ g x) → Alike f v g w
 alike_byte {X} f g b v None e h = ap (option_map f) e
 alike_byte {X} f g b v (Some x) e h = ap (option_map f) e ∙ ap Some (h x)
-
-pub alike_then : {X Y : Type 0} (h : X → Y) (f g : List ℕ → X) (v w : Option (List ℕ)) → Alike f v g w → Alike (λ x. h (f x)) v (λ x. h (g x)) w
-alike_then {X} {Y} h f g None None e = refl
-alike_then {X} {Y} h f g None (Some y) e = absurd cc
-alike_then {X} {Y} h f g (Some x) None e = absurd cc
-alike_then {X} {Y} h f g (Some x) (Some y) e = let k : f x ≡ g y = cc in ap (λ t. Some (h t)) k
-
-pub alike_by : {X : Type 0} (f g : List ℕ → X) (v : Option (List ℕ)) → ((x : List ℕ) → f x ≡ g x) → Alike f v g v
-alike_by {X} f g None h = refl
-alike_by {X} f g (Some x) h = ap Some (h x)
 
 pub stop_same : (stop : Stop) (front s : List ℕ) (k0 k : ℕ) → k0 ≡ length front + k → stop_ending stop k0 (front ++ s) ≡ stop_ending stop k s
 stop_same (whole found rest) front s k0 k e = refl
@@ -48,13 +38,18 @@ ended_back f g e front k0 k (Some l) (Some s) bytes count alike h =
     let image : f (take k0 l) ≡ g (take k s) = cc in
     (h.0, image ∙ h.1, h.2 ∙ sym (stop_same h.0 front s k0 k count) ∙ ap (stop_ending h.0 k0) (sym same), h.3)
 
+pub ended_from : (f g : List ℕ → Turn) (e : Ending) (a b : Spot) → Passes f g a b
+    → IfSome b.ahead (λ bytes. (stop : Stop) × (g (take b.allowed bytes) ≡ stops stop) × (e ≡ stop_ending stop b.allowed bytes) × IsBroken stop)
+    → IfSome a.ahead (λ bytes. (stop : Stop) × (f (take a.allowed bytes) ≡ stops stop) × (e ≡ stop_ending stop a.allowed bytes) × IsBroken stop)
+ended_from f g e a b p h = ended_back f g e p.moves.front a.allowed b.allowed a.ahead b.ahead p.moves.bytes p.moves.count (passes_alike f g a b p) h
+
 -- the rest of a turn, where the beginning came to g
-pub turn_back : (f g : List ℕ → Turn) (r : ChunkRead) (found : List ℕ) (s t u : Shown) (a b c : Spot) → KeepsGiven s t → Moves a b → Alike f (window a) g (window b) → IsTurn g r found t b u c → IsTurn f r found s a u c
-turn_back f g chunkread.More found s t u a b c keeps m alike h = (alike ∙ h.0, moves_on a b c m h.1, omega (arith, m.count, h.2))
-turn_back f g chunkread.Whole found s t u a b c keeps m alike h = (alike ∙ h.0, moves_on a b c m h.1)
-turn_back f g (chunkread.Ended e) found s t u a b c keeps m alike h = ended_back f g e m.front a.allowed b.allowed a.ahead b.ahead m.bytes m.count alike h
-turn_back f g chunkread.Fault found s t u a b c keeps m alike h = omega (arith, keeps.takes, h)
-turn_back f g chunkread.OutOfMemory found s t u a b c keeps m alike h = tt
+pub turn_back : (f g : List ℕ → Turn) (r : ChunkRead) (found : List ℕ) (s t u : Shown) (a b c : Spot) → KeepsGiven s t → Passes f g a b → IsTurn g r found t b u c → IsTurn f r found s a u c
+turn_back f g chunkread.More found s t u a b c keeps p h = (passes_on f g (goes found) a b c p h.0, omega (arith, p.moves.count, h.1))
+turn_back f g chunkread.Whole found s t u a b c keeps p h = passes_on f g (λ w. stops (whole found w)) a b c p h
+turn_back f g (chunkread.Ended e) found s t u a b c keeps p h = ended_from f g e a b p h
+turn_back f g chunkread.Fault found s t u a b c keeps p h = fault_on f g (stops part) a b s t u p keeps h
+turn_back f g chunkread.OutOfMemory found s t u a b c keeps p h = reached_on a b u p.moves h
 
 pub wrong_at : (f : List ℕ → Turn) (k : ℕ) (old w : Option (List ℕ)) → Alike f (option_map (take k) old) (λ x. stops wrong) w
     → IfSome old (λ bytes. (stop : Stop) × (f (take k bytes) ≡ stops stop) × (ending.BadHead ≡ stop_ending stop k bytes) × IsBroken stop)
@@ -67,18 +62,14 @@ pub over_at : (f : List ℕ → Turn) (e : Ending) (k : ℕ) (old : Option (List
 over_at f e k None is h = tt
 over_at f e k (Some l) is h = (part, ap f h.0 ∙ is, h.1, tt)
 
-pub ended_from : (f g : List ℕ → Turn) (e : Ending) (a b : Spot) → Moves a b → Alike f (window a) g (window b)
-    → IfSome b.ahead (λ bytes. (stop : Stop) × (g (take b.allowed bytes) ≡ stops stop) × (e ≡ stop_ending stop b.allowed bytes) × IsBroken stop)
-    → IfSome a.ahead (λ bytes. (stop : Stop) × (f (take a.allowed bytes) ≡ stops stop) × (e ≡ stop_ending stop a.allowed bytes) × IsBroken stop)
-ended_from f g e a b m alike h = ended_back f g e m.front a.allowed b.allowed a.ahead b.ahead m.bytes m.count alike h
-
 -- ---- bytes were taken into the buffer
 
 pub held_moves : (k : ℕ) (old new : List ℕ) (s t : Shown) → Moved old s new t → Moves (spot k old s) (spot k new t)
 held_moves k old new s t m = record { front = []; bytes = sym m.same ∙ after_none (ahead new t); count = omega arith }
 
-pub held_alike : {X : Type 0} (f : List ℕ → X) (k : ℕ) (old new : List ℕ) (s t : Shown) → Moved old s new t → Alike f (window (spot k old s)) f (window (spot k new t))
-held_alike {X} f k old new s t m = ap (λ o. option_map f (option_map (take k) o)) (sym m.same)
+pub passes_held : {X : Type 0} (f : List ℕ → X) (k : ℕ) (old new : List ℕ) (s t : Shown) → Moved old s new t → Passes f f (spot k old s) (spot k new t)
+unfolding held_moves
+passes_held {X} f k old new s t m = record { moves = held_moves k old new s t m; same = λ more. refl }
 
 take_nil : (k : ℕ) (x : List ℕ) → x ≡ [] → take k x ≡ []
 take_nil zero x e = refl
@@ -111,6 +102,9 @@ data_wrong content b x other = let k : (b == 13) ≡ false = grind (arith, nat_t
 pub data_none : (content : List ℕ) → after_data content [] ≡ stops part
 unfolding after_data
 data_none content = refl
+
+pub feed_goes : (content : List ℕ) (b : ℕ) (x : List ℕ) → b ≡ 10 → after_return content (b ∷ x) ≡ goes content x
+feed_goes content b x e = rw e refl
 
 -- ---- trailers
 
@@ -183,10 +177,6 @@ large_at content [] left k (Some l) full some may long = absurd (omega arith)
 large_at content (x ∷ held) left zero (Some l) full some may long = absurd (may refl)
 large_at content (x ∷ held) left (suc k) (Some l) full some may long = (large, chunk_large content (take k (held ++ l)) left x full some, refl, tt)
 
-alike_front : {X : Type 0} (f g : List ℕ → X) (front : List ℕ) (v w : Option (List ℕ)) → v ≡ after_buffer front w → ((x : List ℕ) → f (front ++ x) ≡ g x) → Alike f v g w
-alike_front {X} f g front v None e h = ap (option_map f) e
-alike_front {X} f g front v (Some x) e h = ap (option_map f) e ∙ ap Some (h x)
-
 pub copied_moves : (content held content' held' : List ℕ) (k left k' left' : ℕ) (o : Option (List ℕ)) → IsCopied content held k left content' held' k' left'
     → Moves (record { allowed = k; ahead = after_buffer held o }) (record { allowed = k'; ahead = after_buffer held' o })
 copied_moves content held content' held' k left k' left' o m = record {
@@ -195,17 +185,18 @@ copied_moves content held content' held' k left k' left' o m = record {
   count = let l = length-take m.count held in omega (arith, l, m.held, m.allowed_is);
 }
 
-pub copied_alike : (content held content' held' : List ℕ) (k left k' left' : ℕ) (o : Option (List ℕ)) → IsCopied content held k left content' held' k' left'
-    → Alike (chunk_of content left) (window (record { allowed = k; ahead = after_buffer held o })) (chunk_of content' left') (window (record { allowed = k'; ahead = after_buffer held' o }))
+pub passes_copied : (content held content' held' : List ℕ) (k left k' left' : ℕ) (o : Option (List ℕ)) → IsCopied content held k left content' held' k' left'
+    → Passes (chunk_of content left) (chunk_of content' left') (record { allowed = k; ahead = after_buffer held o }) (record { allowed = k'; ahead = after_buffer held' o })
 unfolding copied_moves
-copied_alike content held content' held' k left k' left' o m =
+passes_copied content held content' held' k left k' left' o m =
     let l = length-take m.count held in
     let long : length (take m.count held) ≡ m.count = omega (arith, l, m.held) in
     let few : length content + length (take m.count held) ≤ 4194304 = omega (arith, long, m.within) in
     let is : left ≡ length (take m.count held) + left' = omega (arith, long, m.left_is) in
-    alike_front (chunk_of content left) (chunk_of content' left') (take m.count held) _ _
-    (window_after (record { allowed = k; ahead = after_buffer held o }) (record { allowed = k'; ahead = after_buffer held' o }) (copied_moves content held content' held' k left k' left' o m))
-    (λ x. ap (λ (n : ℕ). chunk_of content n (take m.count held ++ x)) is ∙ chunk_step content (take m.count held) x left' few ∙ ap (λ (c : List ℕ). chunk_of c left' x) (sym m.content_is))
+    record {
+      moves = copied_moves content held content' held' k left k' left' o m;
+      same = λ x. ap (λ (n : ℕ). chunk_of content n (take m.count held ++ x)) is ∙ chunk_step content (take m.count held) x left' few ∙ ap (λ (c : List ℕ). chunk_of c left' x) (sym m.content_is);
+    }
 
 pub copied_within : (content held content' held' : List ℕ) (k left k' left' : ℕ) → IsCopied content held k left content' held' k' left' → length content' ≤ 4194304
 copied_within content held content' held' k left k' left' m =

@@ -14,9 +14,11 @@ use Rattle.httparse.proofs.ChunkLemmas.{chunk_line_unique}
 use Rattle.http_session.specs.declared.message.Message.{Message}
 use Rattle.http_session.specs.declared.plan.Body.{Body}
 use Rattle.http_session.specs.declared.plan.Body.TheVariants as way
-use Rattle.http_session.specs.Chunks.{Line, line, no_line, part_line, IsLine, Stop, goes, stops, turn_of, ReadsChunks, sent_limit}
+use Rattle.http_session.specs.Chunks.{Line, line, no_line, part_line, IsLine, Stop, goes, stops, ReadsChunks, sent_limit}
+use Rattle.http_session.specs.Spots.{turn_of}
 use Rattle.http_session.specs.Frames.{Frame, message, ended, BodyFound, chunked_body, IsBody, framed, IsFramed, FollowsHead, IsNext, Sent, Frames}
 use Rattle.http_session.proofs.HeadReads.{front_taken}
+use Rattle.http_session.proofs.TrailerLaws.{turn_only}
 
 -- a head within the limit stands in the first bytes
 head_in_window : (bytes : List ℕ) (h : RequestHead) (rest : List ℕ) → ReadsRequest bytes h rest → length (print_request h) ≤ head_limit → ReadsRequest (take head_limit bytes) h (take (head_limit - length (print_request h)) rest)
@@ -58,16 +60,16 @@ line_unique bytes part_line part_line x y = refl
 
 chunks_unique : (n m : ℕ) (found bytes : List ℕ) (s t : Stop) → ReadsChunks n found bytes s → ReadsChunks m found bytes t → s ≡ t
 chunks_unique zero zero found bytes s t (l, is, e) (k, also, f) =
-    let same : stops s ≡ stops t = sym e ∙ ap (turn_of found) (line_unique bytes l k is also) ∙ f in
+    let same : stops s ≡ stops t = sym (turn_only found l _ e) ∙ ap (turn_of found) (line_unique bytes l k is also) ∙ turn_only found k _ f in
     cc
 chunks_unique zero (suc m) found bytes s t (l, is, e) (k, also, more, rest, f, h) =
-    let same : stops s ≡ goes more rest = sym e ∙ ap (turn_of found) (line_unique bytes l k is also) ∙ f in
+    let same : stops s ≡ goes more rest = sym (turn_only found l _ e) ∙ ap (turn_of found) (line_unique bytes l k is also) ∙ turn_only found k _ f in
     absurd cc
 chunks_unique (suc n) zero found bytes s t (l, is, more, rest, e, h) (k, also, f) =
-    let same : goes more rest ≡ stops t = sym e ∙ ap (turn_of found) (line_unique bytes l k is also) ∙ f in
+    let same : goes more rest ≡ stops t = sym (turn_only found l _ e) ∙ ap (turn_of found) (line_unique bytes l k is also) ∙ turn_only found k _ f in
     absurd cc
 chunks_unique (suc n) (suc m) found bytes s t (l, is, more, rest, e, h) (k, also, more', rest', f, h') =
-    let same : goes more rest ≡ goes more' rest' = sym e ∙ ap (turn_of found) (line_unique bytes l k is also) ∙ f in
+    let same : goes more rest ≡ goes more' rest' = sym (turn_only found l _ e) ∙ ap (turn_of found) (line_unique bytes l k is also) ∙ turn_only found k _ f in
     let a : more' ≡ more = cc in
     let b : rest' ≡ rest = cc in
     chunks_unique n m more rest s t h (subst (λ (x : List ℕ). ReadsChunks m x rest t) a (subst (λ (x : List ℕ). ReadsChunks m more' x t) b h'))

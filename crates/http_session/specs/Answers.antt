@@ -1,13 +1,15 @@
 -- What the reader answers of the bytes that are still to be read.
-use Rattle.std.specs.Prelude.{ℕ, ◌≡◌, ◌≤◌, List, [], ◌++◌, Bool, true, false, if◌then◌else◌, Option, Some, IfSome, codes, Ok, Err}
-use Rattle.wfs_ends.specs.Ends.{Shown, Rose, GivesAll, GivesFront, given_more}
+use Rattle.std.specs.Prelude.{ℕ, ◌≡◌, ◌≤◌, ◌⊎◌, List, [], ◌++◌, Bool, true, false, if◌then◌else◌, Option, Some, IfSome, codes, Ok, Err}
+use Rattle.wfs_ends.specs.Ends.{Shown, Rose, AllGrow, GivesAll, GivesFront, given_more}
 use Rattle.http_session.specs.declared.message.Ending.{Ending}
 use Rattle.http_session.specs.declared.message.Ending.TheVariants as ending
 use Rattle.http_session.specs.declared.message.Next.{Next}
 use Rattle.http_session.specs.declared.message.Next.TheVariants as next
-use Rattle.http_session.specs.Frames.{Frame, message, ended, is_due, HasBody, IsNext, Sent, Frames}
-use Rattle.http_session.specs.Reading.{ahead}
+use Rattle.http_session.specs.Frames.{Frame, message, ended, is_due, no_content, IsBody, HasBody, IsNext, Sent, Frames}
+use Rattle.http_session.specs.Heads.{head, IsHead}
+use Rattle.http_session.specs.Reading.{ahead, Reached, IsFault}
 use Rattle.http_session.specs.Fields.{judged}
+use Rattle.http_session.specs.declared.plan.Plan.{Plan}
 use Rattle.http_session.specs.declared.start.Start.{Start}
 use Rattle.http_session.specs.declared.start.StartRead.{StartRead}
 use Rattle.http_session.specs.declared.start.StartRead.TheVariants as startread
@@ -28,8 +30,8 @@ interim due = if due then continue_line else []
 abbrev pub OnlyDue : Bool → (Frame → Type 0) → Type 0
 OnlyDue due is_frame = (frame : Frame) → is_frame frame → due ≡ true → is_due frame ≡ true
 
--- The answer is the frame, and what is behind a message is still to be read. A fault and want of memory say nothing
--- of it but that the line is due, if it was written.
+-- The answer is the frame, and what is behind a message is still to be read. A fault and want of memory say of it that
+-- the line is due, if it was written.
 abbrev pub Answers : (Frame → Type 0) → Bool → Next → Option (List ℕ) → Type 0
 Answers is_frame due (next.Message m) left = (rest : List ℕ) × is_frame (message m due rest) × (left ≡ Some rest)
 Answers is_frame due next.End left = is_frame (ended ending.End due)
@@ -63,22 +65,57 @@ Written due next.Coding before after = after.given ≡ given_more before.given (
 Written due next.Cut before after = after.given ≡ given_more before.given (interim due)
 Written due next.OutOfMemory before after = after.given ≡ given_more before.given (interim due)
 
--- counts never fall, and no borrow in the link is exchanged
+-- the bytes hold a head whose fields say whether the line is due
+abbrev pub HasPlan : List ℕ → Bool → Type 0
+HasPlan bytes due = (h : RequestHead) × (rest : List ℕ) × IsHead bytes (head h rest) × (plan : Plan) × (judged h ≡ Ok plan) × (due ≡ plan.due)
+
+-- if the input ended here, it would end between two messages or within one
+abbrev pub Awaits : List ℕ → Bool → Type 0
+Awaits bytes due = IsNext bytes (ended ending.End due) ⊎ IsNext bytes (ended ending.Cut due)
+
+-- What was taken by a fault, and by want of memory, stands in front of what the link has left. It says whether the line
+-- was to be written: at a fault just that was done, and at want of memory no more. At a read fault it holds no whole
+-- message.
+abbrev pub Breaks : (awaits plans : List ℕ → Bool → Type 0) → Bool → Next → Option (List ℕ) → Shown → Type 0
+Breaks awaits plans due next.ReadFault ahead after = (r : Reached ahead after) × awaits r.taken due
+Breaks awaits plans due next.WriteFault ahead after = (r : Reached ahead after) × plans r.taken true
+Breaks awaits plans due next.OutOfMemory ahead after = (r : Reached ahead after) × (due ≡ true → plans r.taken true)
+Breaks awaits plans due (next.Message m) ahead after = Unit {0}
+Breaks awaits plans due next.End ahead after = Unit {0}
+Breaks awaits plans due next.BadHead ahead after = Unit {0}
+Breaks awaits plans due next.TooLarge ahead after = Unit {0}
+Breaks awaits plans due next.NoLength ahead after = Unit {0}
+Breaks awaits plans due next.Coding ahead after = Unit {0}
+Breaks awaits plans due next.Cut ahead after = Unit {0}
+
+-- counts never fall, what was passed on stays so, and no borrow in the link is exchanged
 pub record Stays (before after : Shown) : Type 0 where
   pub takes : before.failed_takes ≤ after.failed_takes
   pub puts : before.failed_puts ≤ after.failed_puts
+  pub passed : AllGrow before.passed after.passed
   pub place : after.place ≡ before.place
 
 -- what a call answered and wrote, where the bytes that were to be read have these frames
-pub record ReadsBy (frames : List ℕ → Frame → Type 0) (buffered : List ℕ) (before : Shown) (answer : Next) (buffered' : List ℕ) (after : Shown) : Type 0 where
+pub record ReadsBy (frames : List ℕ → Frame → Type 0) (awaits plans : List ℕ → Bool → Type 0) (buffered : List ℕ) (before : Shown) (answer : Next) (buffered' : List ℕ) (after : Shown) : Type 0 where
   pub due : Bool
   pub answers : IfSome (ahead buffered before) (λ bytes. Answers (frames bytes) due answer (ahead buffered' after))
   pub written : Written due answer before after
+  pub breaks : Breaks awaits plans due answer (ahead buffered before) after
   pub stays : Stays before after
 
 -- one call of the reader
 abbrev pub Reads : List ℕ → Shown → Next → List ℕ → Shown → Type 0
-Reads = ReadsBy IsNext
+Reads = ReadsBy IsNext Awaits HasPlan
+
+-- the rest of a message whose head said this
+abbrev pub IsPlanned : Plan → List ℕ → Bool → Type 0
+IsPlanned plan bytes due = due ≡ plan.due
+
+abbrev pub AwaitsBody : Plan → List ℕ → Bool → Type 0
+AwaitsBody plan bytes due = IsBody plan.body bytes (no_content ending.Cut) × (due ≡ plan.due)
+
+abbrev pub ReadsRest : Start → List ℕ → Shown → Next → List ℕ → Shown → Type 0
+ReadsRest start = ReadsBy (HasBody start.method start.target start.plan) (AwaitsBody start.plan) (IsPlanned start.plan)
 
 -- the answer at an ending
 abbrev pub next_of : Ending → Next
@@ -98,7 +135,8 @@ IsStart startread.OutOfMemory h = Unit {0}
 -- what the rest of a message comes to, apart from what is written
 pub record IsBodyNext (start : Start) (answer : Next) (buffered : List ℕ) (before : Shown) (buffered' : List ℕ) (after : Shown) : Type 0 where
   pub answers : IfSome (ahead buffered before) (λ bytes. Answers (HasBody start.method start.target start.plan bytes) start.plan.due answer (ahead buffered' after))
-  pub fault : answer ≡ next.ReadFault → Rose before.failed_takes after.failed_takes
+  pub fault : answer ≡ next.ReadFault → (q : IsFault (ahead buffered before) before after) × IsBody start.plan.body q.reached.taken (no_content ending.Cut)
+  pub memory : answer ≡ next.OutOfMemory → Reached (ahead buffered before) after
   pub read : answer ≡ next.WriteFault → ⊥
 
 -- the same, of each head that the spans are of

@@ -1,9 +1,8 @@
 -- A body in chunks (RFC 9112, section 7.1).
-use Rattle.std.specs.Prelude.{ℕ, zero, suc, ◌≡◌, ◌+◌, List, [], ◌∷◌, ◌++◌, length, take, drop, Bool, true, false, ◌==◌, nat_lt, if◌then◌else◌}
+use Rattle.std.specs.Prelude.{ℕ, zero, suc, ◌≡◌, ◌+◌, List, [], ◌∷◌, ◌++◌, length, take, drop, ◌==◌, nat_lt, if◌then◌else◌}
 use Rattle.httparse.specs.Grammar.{ChunkLine, chunk_size, ReadsChunkLine, HasNoChunkLine, NeverHasChunkLine}
-use Rattle.http_session.specs.declared.chunks.Begun.{Begun}
-use Rattle.http_session.specs.declared.chunks.Begun.TheVariants as begun
 use Rattle.http_session.specs.Fields.{body_limit}
+use Rattle.http_session.specs.Trailers.{ReadsTrailer, HasNoTrailer}
 
 -- a body in chunks has at most so many bytes as sent, with all its lines
 abbrev pub sent_limit : ℕ
@@ -33,23 +32,12 @@ pub data Turn : Type 0 where
   goes : List ℕ → List ℕ → Turn
   stops : Stop → Turn
 
--- what has come of a trailer line: nothing, a CR alone, or text
-abbrev pub begun_more : Begun → ℕ → Begun
-begun_more begun.Nothing b = if b == 13 then begun.Return else begun.Text
-begun_more begun.Return b = begun.Text
-begun_more begun.Text b = begun.Text
-
-abbrev pub is_empty_line : Begun → Bool
-is_empty_line begun.Nothing = true
-is_empty_line begun.Return = true
-is_empty_line begun.Text = false
-
--- Trailer lines end in LF, and are passed over up to the first that is empty.
-unfoldable pub after_trailer : List ℕ → Begun → List ℕ → Stop
-after_trailer content so_far [] = part
-after_trailer content so_far (b ∷ bytes) =
-    if b == 10 then if is_empty_line so_far then whole content bytes else after_trailer content begun.Nothing bytes
-    else after_trailer content (begun_more so_far b) bytes
+-- behind the last chunk: the content, and what follows the trailer; or a part of a trailer
+abbrev pub IsAfterTrailer : List ℕ → List ℕ → Stop → Type 0
+IsAfterTrailer content bytes (whole found rest) = (found ≡ content) × ReadsTrailer bytes rest
+IsAfterTrailer content bytes part = HasNoTrailer bytes
+IsAfterTrailer content bytes wrong = ⊥
+IsAfterTrailer content bytes large = ⊥
 
 -- a chunk ends in CR LF
 abbrev pub after_return : List ℕ → List ℕ → Turn
@@ -67,14 +55,15 @@ chunk_of content size bytes =
     else if nat_lt (length bytes) size then stops part
     else after_data (content ++ take size bytes) (drop size bytes)
 
--- the chunk line, and what it begins; a size of 0 begins the trailer
-abbrev pub turn_of : List ℕ → Line → Turn
-turn_of content (line size rest) = if size == 0 then stops (after_trailer content begun.Nothing rest) else chunk_of content size rest
-turn_of content no_line = stops wrong
-turn_of content part_line = stops part
+-- what a chunk line begins: a chunk of its size, or the trailer where that is 0
+abbrev pub IsTurnOf : List ℕ → Line → Turn → Type 0
+IsTurnOf content (line zero rest) turn = (stop : Stop) × (turn ≡ stops stop) × IsAfterTrailer content rest stop
+IsTurnOf content (line (suc n) rest) turn = turn ≡ chunk_of content (suc n) rest
+IsTurnOf content no_line turn = turn ≡ stops wrong
+IsTurnOf content part_line turn = turn ≡ stops part
 
 -- after n further chunks the bytes end so
 abbrev pub ReadsChunks : ℕ → List ℕ → List ℕ → Stop → Type 0
-ReadsChunks zero content bytes stop = (l : Line) × IsLine bytes l × (turn_of content l ≡ stops stop)
+ReadsChunks zero content bytes stop = (l : Line) × IsLine bytes l × IsTurnOf content l (stops stop)
 ReadsChunks (suc n) content bytes stop =
-    (l : Line) × IsLine bytes l × (more : List ℕ) × (rest : List ℕ) × (turn_of content l ≡ goes more rest) × ReadsChunks n more rest stop
+    (l : Line) × IsLine bytes l × (more : List ℕ) × (rest : List ℕ) × IsTurnOf content l (goes more rest) × ReadsChunks n more rest stop

@@ -1,6 +1,7 @@
 pub mod Cuts
 pub mod Heads
 pub mod Fields
+pub mod Trailers
 pub mod Chunks
 pub mod Frames
 pub mod Reading

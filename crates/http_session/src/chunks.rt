@@ -1,8 +1,8 @@
 //! A body in chunks.
 ghost use Rattle.std.specs.Prelude.{◌≡◌, ◌<◌, ◌≤◌, length, List, ℕ, IfSome};
 ghost use Rattle.wfs_ends.specs.Ends.{KeepsGiven};
-ghost use Rattle.http_session.specs.Spots.{spot, IsLineRead, IsTurn, IsCopied, trailer_step};
-ghost use Rattle.http_session.specs.Chunks.{turn_of, stops, after_trailer, chunk_of, after_data, after_return};
+ghost use Rattle.http_session.specs.Spots.{spot, IsLineRead, IsTurn, IsCopied, after_trailer, trailer_step, turn_of};
+ghost use Rattle.http_session.specs.Chunks.{stops, chunk_of, after_data, after_return};
 ghost use Rattle.http_session.specs.Reading.{IsBodyRead};
 ghost use Rattle.http_session.specs.declared.plan.Body.TheVariants as way;
 ghost use Rattle.http_session.specs.declared.chunks.Begun.TheVariants as begun;

@@ -4,7 +4,7 @@ ghost use Rattle.std.specs.List.{list_all};
 ghost use Rattle.httparse.specs.Grammar.{HasNoRequest};
 ghost use Rattle.http_session.specs.Heads.{IsUndecided, EndsWithoutHead, SplitsTarget, after_space};
 ghost use Rattle.http_session.specs.Cuts.{StartsOutside, Cut, is_of};
-ghost use Rattle.http_session.specs.Reading.{Moved, IsStep, IsJudged, IsEarly, IsHeadEnd, IsHeadFull, IsHeadRead};
+ghost use Rattle.http_session.specs.Reading.{Moved, IsStep, IsJudged, IsEarly, IsHeadEnd, IsHeadStopped, IsHeadFull, IsHeadRead};
 
 use crate::buffer::{Buffer, Filled, ROOM};
 use crate::cut::{Class, split_run};
@@ -74,7 +74,7 @@ pub(crate) fn read_head<S: Source>(
         match buffer.fill(source) {
             Filled::More => {}
             Filled::End => return judge_at_end(buffer.bytes(), headers),
-            Filled::Fault => return HeadRead::Fault,
+            Filled::Fault => return judge_at_fault(buffer.bytes(), headers),
         }
     }
     judge_when_full(buffer.bytes(), headers)
@@ -105,6 +105,21 @@ fn judge_at_end(bytes: &[u8], headers: &mut [HeaderSpan]) -> HeadRead
         Judged::Head(spans) => HeadRead::Head(spans),
         Judged::Bad => HeadRead::Ended(Ending::BadHead),
         Judged::More => HeadRead::Ended(end_of(bytes)),
+    }
+}
+
+/// Judges the bytes that came before the link failed: a head or a bad one among them is told first, so that the answer
+/// does not depend on when they were looked at.
+fn judge_at_fault(bytes: &[u8], headers: &mut [HeaderSpan]) -> HeadRead
+    requires within { length bytes.now < 16384 }
+    requires room { length headers.old ≡ 5500 }
+    ensures room { length headers.new ≡ 5500 }
+    ensures read { IsHeadStopped result bytes.now headers.new }
+{
+    match judge(bytes, target_space(bytes), headers) {
+        Judged::Head(spans) => HeadRead::Head(spans),
+        Judged::Bad => HeadRead::Ended(Ending::BadHead),
+        Judged::More => HeadRead::Fault,
     }
 }
 

@@ -1,9 +1,8 @@
 //! The reader of a connection's messages.
 ghost use Rattle.std.specs.Prelude.{◌≡◌, ◌≤◌, [], length, drop, All, IfOk, Some, IfSome, take};
 ghost use Rattle.wfs_ends.specs.Ends.{KeepsGiven};
-ghost use Rattle.http_session.specs.Answers.{Reads, ReadsBy, IsBodyNext, IsAsked, HasOneNext, HasOneReading, next_of};
+ghost use Rattle.http_session.specs.Answers.{Reads, ReadsRest, IsBodyNext, IsAsked, HasOneNext, HasOneReading, next_of};
 ghost use Rattle.http_session.specs.Reading.{HeadAt, IsBodyRead};
-ghost use Rattle.http_session.specs.Frames.{HasBody};
 
 use crate::body::{BodyRead, read_sized};
 use crate::buffer::Buffer;
@@ -51,8 +50,10 @@ impl Reader {
     /// Reads the next message (RFC 9112), and writes the line `100 Continue` where its sender waits for it, before the
     /// body is read. Whatever pieces the link gives, the answers are those of all its bytes.
     ///
-    /// `ReadFault` and `WriteFault` come only where the link counted a failure on that side. After anything but a
-    /// message the reader is not called again.
+    /// `ReadFault` and `WriteFault` come only where the link counted a failure on that side. At `ReadFault` the bytes
+    /// that were taken hold no whole message: an input of them alone would be `Cut` or at its end, and the line was
+    /// written just where their head asks for it. At `WriteFault` they hold a head that asks for it. After anything but
+    /// a message the reader is not called again.
     pub fn next_message<L: Link>(&mut self, alloc: Global, link: &mut L) -> Next
         ensures { Reads self.old (L.Source.source link.old) result self.new (L.Source.source link.new) }
     {
@@ -101,7 +102,7 @@ fn read_message<L: Link>(
 
 /// Asks for the body, if that is due, and reads it.
 fn read_rest<L: Link>(alloc: Global, buffer: &mut Buffer, start: Start, link: &mut L) -> Next
-    ensures { ReadsBy (HasBody start.method start.target start.plan) buffer.old (L.Source.source link.old) result buffer.new (L.Source.source link.new) }
+    ensures { ReadsRest start buffer.old (L.Source.source link.old) result buffer.new (L.Source.source link.new) }
 {
     if fails_to_ask(link, start.plan.due) {
         return Next::WriteFault;

@@ -35,8 +35,11 @@ impl Link for Pieces {
     ghost is_one = { λ p. refl };
 }
 
+/// The interim line (RFC 9110, section 15.2.1).
+const CONTINUE: &[u8] = b"HTTP/1.1 100 Continue\r\n\r\n";
+
 /// A stream, and what is read of it: each message as method, target, `!` where the connection closes, and body; the
-/// ending; and `+` for each interim line.
+/// ending; and `+` for each interim line, or `-` for a part of it.
 static CASES: [(&str, &str); 93] = [
     ("", "End"),
     ("\r\n", "End"),
@@ -336,25 +339,45 @@ fn read_all(alloc: Global, link: &mut Pieces) -> Mem<String> {
             }
         }
     }
-    for _ in 0..link.inner.written().len() / 25 {
-        text.push('+')?;
+    for line in link.inner.written().chunks(CONTINUE.len()) {
+        text.push(if line == CONTINUE { '+' } else { '-' })?;
     }
     Ok(text)
 }
 
-/// The stream in these pieces.
-fn read_in(alloc: Global, input: &str, next: usize, then: usize) -> Mem<String> {
+/// A number for a call that no test makes.
+const NEVER: u64 = 1_000_000_000;
+
+/// Reads the stream in these pieces from a link with room for so many bytes, whose take and put of these numbers fail.
+fn read_failing(
+    alloc: Global,
+    input: &str,
+    pieces: (usize, usize),
+    room: u64,
+    fails: (u64, u64),
+) -> Mem<String> {
     let bytes = Vec::from_slice(alloc, input.as_bytes())?;
-    let inner = MemLink::new(alloc, bytes, 1000, Vec::new(alloc), Vec::new(alloc))?;
+    let takes = Vec::from_slice(alloc, &[fails.0])?;
+    let puts = Vec::from_slice(alloc, &[fails.1])?;
+    let inner = MemLink::new(alloc, bytes, room, takes, puts)?;
+    let (next, then) = pieces;
     let mut link = Pieces { inner, next, then };
     read_all(alloc, &mut link)
 }
 
-/// Reads each stream cut at each place of its first 200 bytes, and byte by byte. It answers the first that is read
-/// otherwise than the table says.
+/// The stream in these pieces.
+fn read_in(alloc: Global, input: &str, next: usize, then: usize) -> Mem<String> {
+    read_failing(alloc, input, (next, then), 100, (NEVER, NEVER))
+}
+
+/// Reads each stream whole, cut at each place of its first 200 bytes, and byte by byte. It answers the first that is
+/// read otherwise than the table says.
 fn first_misread<'a>(alloc: Global, cases: &'a [(&'a str, &'a str)]) -> Mem<Option<&'a str>> {
     for (input, want) in cases {
-        for cut in 0..input.len().min(200) {
+        if read_in(alloc, input, 20000, 20000)?.as_str() != *want {
+            return Ok(Some(input));
+        }
+        for cut in 1..input.len().min(200) {
             if read_in(alloc, input, cut, 20000)?.as_str() != *want {
                 return Ok(Some(input));
             }
@@ -366,10 +389,163 @@ fn first_misread<'a>(alloc: Global, cases: &'a [(&'a str, &'a str)]) -> Mem<Opti
     Ok(None)
 }
 
+/// A message, how many bytes its head has, and what is read of its head alone.
+static WHOLES: [(&str, usize, &str); 3] = [
+    ("GET / HTTP/1.1\r\nHost: h\r\n\r\n", 27, "GET /[];End"),
+    (
+        "POST / HTTP/1.1\r\nExpect: 100-continue\r\nContent-Length: 5\r\n\r\nhello",
+        60,
+        "Cut+",
+    ),
+    (
+        "POST / HTTP/1.1\r\nTransfer-Encoding: chunked\r\nExpect: 100-Continue\r\n\r\n5;a\r\nhello\r\n12\r\n0123456789abcdefgh\r\n0\r\nA: b\r\n\r\n",
+        69,
+        "Cut+",
+    ),
+];
+
+/// Reads the front of each message up to each of its places. It answers the first that is read otherwise than as one
+/// that ends within the message, with the line once the head is whole.
+fn first_misjudged<'a>(
+    alloc: Global,
+    wholes: &'a [(&'a str, usize, &'a str)],
+) -> Mem<Option<&'a str>> {
+    for (input, head, want) in wholes {
+        for end in 1..input.len() {
+            let Some(front) = input.get(..end) else {
+                return Ok(Some(input));
+            };
+            let want = if end < *head { "Cut" } else { want };
+            if read_in(alloc, front, 20000, 20000)?.as_str() != want {
+                return Ok(Some(input));
+            }
+        }
+    }
+    Ok(None)
+}
+
+/// A stream, its first piece and the others, the room for what is written, the take and the put that fail, and what is
+/// read.
+static FAULTS: [(&str, (usize, usize), u64, (u64, u64), &str); 14] = [
+    ("", (9, 9), 100, (0, NEVER), "ReadFault"),
+    (
+        "GET / HTTP/1.1\r\n\r\n",
+        (5, 99),
+        100,
+        (1, NEVER),
+        "ReadFault",
+    ),
+    (
+        "G(T / HTTP/1.1\r\n\r\n",
+        (5, 99),
+        100,
+        (1, NEVER),
+        "BadHead",
+    ),
+    (
+        "GET / HTTP/1.1\r\n\r\n",
+        (99, 99),
+        100,
+        (1, NEVER),
+        "GET /[];ReadFault",
+    ),
+    (
+        "POST / HTTP/1.1\r\nContent-Length: 5\r\n\r\nhello",
+        (41, 99),
+        100,
+        (1, NEVER),
+        "ReadFault",
+    ),
+    (
+        "POST / HTTP/1.1\r\nExpect: 100-continue\r\nContent-Length: 5\r\n\r\nhello",
+        (60, 99),
+        100,
+        (1, NEVER),
+        "ReadFault+",
+    ),
+    (
+        "POST / HTTP/1.1\r\nExpect: 100-continue\r\nContent-Length: 5\r\n\r\nhello",
+        (59, 99),
+        100,
+        (1, NEVER),
+        "ReadFault",
+    ),
+    (
+        "POST / HTTP/1.1\r\nTransfer-Encoding: chunked\r\n\r\n12\r\n0123456789abcdefgh\r\n0\r\n\r\n",
+        (48, 99),
+        100,
+        (1, NEVER),
+        "ReadFault",
+    ),
+    (
+        "POST / HTTP/1.1\r\nTransfer-Encoding: chunked\r\n\r\n12\r\n0123456789abcdefgh\r\n0\r\n\r\n",
+        (55, 99),
+        100,
+        (1, NEVER),
+        "ReadFault",
+    ),
+    (
+        "POST / HTTP/1.1\r\nTransfer-Encoding: chunked\r\n\r\n12\r\n0123456789abcdefgh\r\n0\r\n\r\n",
+        (74, 99),
+        100,
+        (1, NEVER),
+        "ReadFault",
+    ),
+    (
+        "POST / HTTP/1.1\r\nExpect: 100-continue\r\nContent-Length: 5\r\n\r\nhello",
+        (99, 99),
+        100,
+        (NEVER, 0),
+        "WriteFault",
+    ),
+    (
+        "POST / HTTP/1.1\r\nExpect: 100-continue\r\nContent-Length: 5\r\n\r\nhello",
+        (99, 99),
+        10,
+        (NEVER, NEVER),
+        "WriteFault-",
+    ),
+    (
+        "POST / HTTP/1.1\r\nContent-Length: 5\r\n\r\nhello",
+        (99, 99),
+        100,
+        (NEVER, 0),
+        "POST /[hello];End",
+    ),
+    (
+        "POST / HTTP/1.1\r\nExpect: 100-continue\r\nContent-Length: 4194305\r\n\r\n",
+        (99, 99),
+        100,
+        (NEVER, 0),
+        "TooLarge",
+    ),
+];
+
+/// It answers the first that is read otherwise than the table says.
+fn first_other_fault<'a>(
+    alloc: Global,
+    faults: &'a [(&'a str, (usize, usize), u64, (u64, u64), &'a str)],
+) -> Mem<Option<&'a str>> {
+    for (input, pieces, room, fails, want) in faults {
+        if read_failing(alloc, input, *pieces, *room, *fails)?.as_str() != *want {
+            return Ok(Some(input));
+        }
+    }
+    Ok(None)
+}
+
 #[test]
 fn streams_are_read_alike_in_any_pieces(rt: HostRuntime) {
     let misread = first_misread(rt.alloc(), &CASES).expect(&rt, "memory");
     assert_eq!(rt; misread, None);
+}
+
+#[test]
+fn streams_end_and_fail_at_any_place(rt: HostRuntime) {
+    let misjudged = first_misjudged(rt.alloc(), &WHOLES).expect(&rt, "memory");
+    assert_eq!(rt; misjudged, None);
+    let other = first_other_fault(rt.alloc(), &FAULTS).expect(&rt, "memory");
+    assert_eq!(rt; other, None);
 }
 
 /// A text of one byte, again and again, between two others.
@@ -383,7 +559,7 @@ fn repeated(alloc: Global, front: &str, part: &str, count: usize, back: &str) ->
 }
 
 /// A front, what is repeated, how often, a back, and what is read of it, in the words of the table but for the bodies.
-static SIZES: [(&str, &str, usize, &str, &str); 10] = [
+static SIZES: [(&str, &str, usize, &str, &str); 15] = [
     ("GET / HTTP/1.1\r\nA: ", "a", 16361, "\r\n\r\n", "GET"),
     ("GET / HTTP/1.1\r\nA: ", "a", 16362, "\r\n\r\n", "TooLarge"),
     ("GET / HTTP/1.1\r\nA: ", "a", 16362, "\r\n", "Cut"),
@@ -392,6 +568,41 @@ static SIZES: [(&str, &str, usize, &str, &str); 10] = [
     ("", "\r\n", 8192, "", "TooLarge"),
     ("GET / HTTP/1.1\r\n", "A: b\r\n", 64, "\r\n", "GET"),
     ("GET / HTTP/1.1\r\n", "A: b\r\n", 65, "\r\n", "BadHead"),
+    (
+        "POST / HTTP/1.1\r\nContent-Length: 4194304\r\n\r\n",
+        "x",
+        4194304,
+        "",
+        "POST",
+    ),
+    (
+        "POST / HTTP/1.1\r\nContent-Length: 4194304\r\n\r\n",
+        "x",
+        4194303,
+        "",
+        "Cut",
+    ),
+    (
+        "POST / HTTP/1.1\r\nTransfer-Encoding: chunked\r\n\r\n400000\r\n",
+        "x",
+        4194304,
+        "\r\n0\r\n\r\n",
+        "POST",
+    ),
+    (
+        "POST / HTTP/1.1\r\nTransfer-Encoding: chunked\r\n\r\n400001\r\n",
+        "x",
+        4194304,
+        "",
+        "Cut",
+    ),
+    (
+        "POST / HTTP/1.1\r\nTransfer-Encoding: chunked\r\n\r\n400001\r\n",
+        "x",
+        4194305,
+        "",
+        "TooLarge",
+    ),
     (
         "POST / HTTP/1.1\r\nTransfer-Encoding: chunked\r\n\r\n",
         "1\r\nx\r\n",

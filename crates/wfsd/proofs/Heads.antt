@@ -21,7 +21,7 @@ behind_none None = refl
 behind_none (Some left) = refl
 
 pub takes_none : (s : Shown) → Takes s [] s
-takes_none s = record { left = behind_none s.left; keeps = record { given = refl; puts = refl; takes = omega arith; place = refl } }
+takes_none s = record { left = behind_none s.left; keeps = record { given = refl; passed = refl; puts = refl; takes = omega arith; place = refl } }
 
 -- some bytes, and then others
 pub takes_both : {s0 s1 s2 : Shown} {fs bs : List ℕ} → Takes s0 fs s1 → Takes s1 bs s2 → Takes s0 (fs ++ bs) s2
@@ -31,6 +31,7 @@ takes_both {s0} {s1} {s2} {fs} {bs} a b = record {
     given = b.keeps.given ∙ a.keeps.given;
     puts = b.keeps.puts ∙ a.keeps.puts;
     takes = omega (arith, a.keeps.takes, b.keeps.takes);
+    passed = b.keeps.passed ∙ a.keeps.passed;
     place = b.keeps.place ∙ a.keeps.place;
   };
 }

@@ -4,7 +4,7 @@ ghost use Rattle.wfsd.specs.ReplyText.{phrase_of, close_text, status_line, head_
 
 use http::StatusCode;
 use itoa::Buffer;
-use wfs_ends::{Sink, WriteFault, flush_on, put_on};
+use wfs_ends::{Sink, WriteFault, put_on};
 
 // The parts of the head of an answer (RFC 9112, section 4).
 const MEDIA_AND_LENGTH: &[u8] = b"\r\nContent-Type: text/xml\r\nContent-Length: ";
@@ -79,13 +79,9 @@ pub fn put_head<S: Sink>(sink: &mut S, status: StatusCode, size: u64, close: boo
     put_on(sink, failed, END)
 }
 
-/// Flushes what was given of a text, and says whether all of it was.
-pub fn finish<S: Sink>(sink: &mut S, failed: bool) -> Result<(), WriteFault>
-    ensures { (first : Shown) (text : List ℕ) → Writes (record { shown = first; failed = false }) text (record { shown = S.sink sink.old; failed = failed }) → Gives result first text (S.sink sink.new) }
+/// Says whether all of a text was given.
+pub fn finish(failed: bool) -> Result<(), WriteFault>
+    ensures { (first last : Shown) (text : List ℕ) → Writes (record { shown = first; failed = false }) text (record { shown = last; failed = failed }) → Gives result first text last }
 {
-    if flush_on(sink, failed) {
-        Err(WriteFault)
-    } else {
-        Ok(())
-    }
+    if failed { Err(WriteFault) } else { Ok(()) }
 }

@@ -8,7 +8,7 @@ use crate::fault::{Ending, SessionFault};
 use crate::refusal::{Refusal, put_refusal};
 use crate::session::hold;
 use std::alloc::Global;
-use wfs_ends::{Clock, Sink, Source};
+use wfs_ends::{Buffer, Clock, Sink, Source};
 
 /// The input failed.
 pub const READ_FAULT: u8 = 4;
@@ -40,14 +40,14 @@ pub fn talk<I: Source, O: Sink, C: Clock>(
 ) -> Done
     ensures { Talks result.status (C.moments clock.old) (record { in_old = I.source input.old; in_new = I.source input.new; out_old = O.sink out.old; out_new = O.sink out.new }) (entries_of result.desk) }
 {
-    let Ok(mut desk) = Desk::new(alloc) else {
+    let (Ok(mut desk), Ok(mut buffer)) = (Desk::new(alloc), Buffer::new(alloc)) else {
         give_no_memory(out);
         return Done {
             status: OUT_OF_MEMORY,
             desk: None,
         };
     };
-    let status = converse(alloc, input, out, clock, &mut desk);
+    let status = converse(alloc, input, out, &mut buffer, clock, &mut desk);
     Done {
         status,
         desk: Some(desk),
@@ -59,13 +59,14 @@ fn converse<I: Source, O: Sink, C: Clock>(
     alloc: Global,
     input: &mut I,
     out: &mut O,
+    buffer: &mut Buffer,
     clock: &mut C,
     desk: &mut Desk,
 ) -> u8
     requires fresh { desk.old ≡ [] }
     ensures { Talks result (C.moments clock.old) (record { in_old = I.source input.old; in_new = I.source input.new; out_old = O.sink out.old; out_new = O.sink out.new }) desk.new }
 {
-    match hold(alloc, input, out, clock, desk) {
+    match hold(alloc, input, out, buffer, clock, desk) {
         Ok(ending) => status_of(&ending),
         Err(SessionFault::Read) => READ_FAULT,
         Err(SessionFault::Write) => WRITE_FAULT,

@@ -12,7 +12,7 @@ use crate::transacted::put_reply;
 use doc_read::{DocFault, read_document};
 use doc_tree::Element;
 use std::alloc::Global;
-use wfs_ends::{Mem, OutOfMemory, Sink, WriteFault};
+use wfs_ends::{Buffer, Buffered, Mem, OutOfMemory, Sink, WriteFault};
 use wfs_machine::{Entry, Reply, Request};
 
 /// What a message comes to.
@@ -78,6 +78,20 @@ pub fn put_judged<O: Sink>(judged: &Judged, out: &mut O) -> Result<(), WriteFaul
         Judged::Refused(refusal) => put_refusal(*refusal, out),
         Judged::Done(reply) => put_reply(reply, out),
     }
+}
+
+/// Gives the answer to a message through a buffer.
+pub fn give_judged<O: Sink>(
+    judged: &Judged,
+    out: &mut O,
+    buffer: &mut Buffer,
+) -> Result<(), WriteFault>
+    ensures { Gives result (O.sink out.old) (judged_text judged.now) (O.sink out.new) }
+{
+    buffer.clear();
+    let mut buffered = Buffered { sink: out, buffer };
+    let given = put_judged(judged, &mut buffered);
+    buffer.finish(out, given)
 }
 
 /// Whether the answer to a message ends the session.

@@ -5,7 +5,7 @@ ghost use Rattle.wfsd.specs.Talk.{Runs, GivesOr, bad_words, entries_of};
 use crate::conversation::{Done, talk};
 use crate::words::is_talk;
 use std::alloc::Global;
-use wfs_ends::{Clock, Sink, Source, flush_on, put_on};
+use wfs_ends::{Clock, Sink, Source, put_all};
 
 /// The words of the command line are refused.
 pub const BAD_WORDS: u8 = 2;
@@ -36,6 +36,5 @@ pub fn wfsd<I: Source, O: Sink, C: Clock>(
 fn give_bad_words<O: Sink>(out: &mut O)
     ensures { GivesOr (O.sink out.old) bad_words (O.sink out.new) }
 {
-    let failed = put_on(out, false, b"wfsd: bad words\n");
-    let _ = flush_on(out, failed);
+    let _ = put_all(out, b"wfsd: bad words\n");
 }

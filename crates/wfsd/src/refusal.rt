@@ -4,7 +4,7 @@ ghost use Rattle.wfsd.specs.ReplyText.{refusal_status, refusal_code, refusal_loc
 
 use crate::answer::{finish, put_head};
 use http::StatusCode;
-use wfs_ends::{Sink, WriteFault, put_on};
+use wfs_ends::{Buffer, Buffered, Sink, WriteFault, put_on};
 
 // The parts of an exception report (OGC 06-121r9, 8.5) that are the same in each.
 const START: &[u8] =
@@ -115,5 +115,19 @@ pub fn put_refusal<S: Sink>(refusal: Refusal, sink: &mut S) -> Result<(), WriteF
 {
     let failed = put_head(sink, refusal.status(), refusal.length(), refusal.closes());
     let failed = put_body(sink, failed, refusal);
-    finish(sink, failed)
+    finish(failed)
+}
+
+/// Gives a refusal through a buffer.
+pub fn give_refusal<S: Sink>(
+    refusal: Refusal,
+    sink: &mut S,
+    buffer: &mut Buffer,
+) -> Result<(), WriteFault>
+    ensures { Gives result (S.sink sink.old) (refusal_text refusal) (S.sink sink.new) }
+{
+    buffer.clear();
+    let mut buffered = Buffered { sink, buffer };
+    let given = put_refusal(refusal, &mut buffered);
+    buffer.finish(sink, given)
 }

@@ -24,7 +24,7 @@ pub fn put_reply<S: Sink>(reply: &Reply, sink: &mut S) -> Result<(), WriteFault>
 {
     let failed = put_head(sink, StatusCode::OK, reply_length(reply), false);
     let failed = put_body(sink, failed, reply);
-    finish(sink, failed)
+    finish(failed)
 }
 
 // Gives the body of a reply.

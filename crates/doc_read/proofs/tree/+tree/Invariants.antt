@@ -1,4 +1,7 @@
 use Rattle.std.proofs.Common.{◌≡◌, ◌+◌, ◌-◌, ◌*◌, length}
+use Rattle.std.specs.Str.{chars}
+use denote.Shadow.{shadow}
+use denote.Text.{Utf8}
 use Rattle.wfs_ends.specs.Read.{until}
 use Rattle.doc_read.specs.declared.fault.DocFault.TheVariants.{Malformed}
 use Rattle.doc_read.specs.Levels.{bounds_of}
@@ -16,6 +19,7 @@ decreases-content l = 3 * l.depth + 2
 
 abbrev pub invariant-content-loop : goal.invariant-content-loop
 invariant-content-loop l = record {
+  text : shadow (Utf8 l.inside.rest.now);
   scope : l.scope.items ≡ l.fn.scope.items;
-  reads : until Malformed (turn_at (element_at l.depth (bounds_of l.fn.scope.items))) (length l.cs - l.counter) (inside_of l.inside) ≡ content_at (element_at l.depth (bounds_of l.fn.scope.items)) l.fn.seen l.cs;
+  reads : until Malformed (turn_at (element_at l.depth (bounds_of l.fn.scope.items))) (length l.cs - l.counter) (inside_of l.inside) ≡ content_at (element_at l.depth (bounds_of l.fn.scope.items)) l.fn.seen (chars l.cs);
 }

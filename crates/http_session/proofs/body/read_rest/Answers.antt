@@ -1,5 +1,5 @@
 use Rattle.std.proofs.Common.{◌∙◌, ap, arith, Ok}
-use Rattle.http_session.proofs.Bodies.{rest_more, rest_ended, keeps_on}
+use Rattle.http_session.proofs.Bodies.{rest_more, rest_ended, rest_fault, keeps_on}
 use Rattle.http_session.proofs.body.read_rest.Goals as goal
 
 pub returns-in-Ok-eq0-clause-rest : goal.returns-in-Ok-eq0-clause-rest
@@ -14,3 +14,6 @@ loop-filled-preserved g c = (
   keeps_on _ _ _ c.loop-filled.invariant.3 c.take_behind.ensures.keeps,
   rest_more _ _ _ c.loop-filled.filled c.in-Ok.count c.loop-filled.body c.take_behind.new.bytes c.loop-filled.invariant.4 c.take_behind.ensures.front c.in-Ok.ensures.moved c.in-Ok.ensures.bytes,
 )
+
+pub returns-in-Err-clause-rest : goal.returns-in-Err-clause-rest
+returns-in-Err-clause-rest g c = rest_fault c.args.start c.loop-filled.filled _ _ _ c.args.body.now c.loop-filled.body c.loop-filled.invariant.4 c.in-Err.ensures.err c.loop-filled.invariant.3 c.in-Err.ensures.cause c.loop-filled-test.true c.loop-filled.invariant.1

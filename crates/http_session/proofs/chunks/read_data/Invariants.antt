@@ -1,13 +1,12 @@
 use Rattle.std.proofs.Common.{◌≤◌, length}
 use Rattle.wfs_ends.specs.Ends.{KeepsGiven}
 use Rattle.http_session.specs.Chunks.{chunk_of}
-use Rattle.http_session.specs.Spots.{spot, window, Moves, Alike}
+use Rattle.http_session.specs.Spots.{spot, Passes}
 use Rattle.http_session.proofs.chunks.read_data.Given as goal
 
 abbrev pub invariant-loop-left : goal.invariant-loop-left
 invariant-loop-left g l = (length l.content.items ≤ 4194304)
-    × Moves (spot l.fn.allowed l.fn.buffer (g.S.Source.source l.fn.source)) (spot l.allowed l.buffer (g.S.Source.source l.source))
-    × Alike (chunk_of l.fn.content.items l.fn.size) (window (spot l.fn.allowed l.fn.buffer (g.S.Source.source l.fn.source))) (chunk_of l.content.items l.left) (window (spot l.allowed l.buffer (g.S.Source.source l.source)))
+    × Passes (chunk_of l.fn.content.items l.fn.size) (chunk_of l.content.items l.left) (spot l.fn.allowed l.fn.buffer (g.S.Source.source l.fn.source)) (spot l.allowed l.buffer (g.S.Source.source l.source))
     × KeepsGiven (g.S.Source.source l.fn.source) (g.S.Source.source l.source)
 
 abbrev pub decreases-loop-left : goal.decreases-loop-left

@@ -1,8 +1,8 @@
-use Rattle.wfsd.proofs.Finish.{flushed_all, flushed_front}
+use Rattle.wfs_ends.proofs.Writing.{failed_is_front, not_failed_is_all}
 use Rattle.wfsd.proofs.answer.finish.Goals as goal
 
-pub returns-then-flush_on : goal.returns-then-flush_on
-returns-then-flush_on g c = λ first text w. flushed_front first _ _ _ _ text w c.flush_on.ensures c.if-flush_on.true
+pub returns-then-failed : goal.returns-then-failed
+returns-then-failed c = λ first last text w. failed_is_front first last _ text w c.if-failed.true
 
-pub returns-else-flush_on : goal.returns-else-flush_on
-returns-else-flush_on g c = λ first text w. flushed_all first _ _ _ _ text w c.flush_on.ensures c.if-flush_on.false
+pub returns-else-failed : goal.returns-else-failed
+returns-else-failed c = λ first last text w. not_failed_is_all first last _ text w c.if-failed.false

@@ -4,4 +4,4 @@ use Rattle.wfsd.proofs.refusal.put_refusal.Goals as goal
 
 pub returns : goal.returns
 unfolding refusal_text
-returns g c = rw (← c.status.ensures, ← c.length.ensures, ← c.closes.ensures) (c.finish.ensures _ _ (search wrote_steps))
+returns g c = rw (← c.status.ensures, ← c.length.ensures, ← c.closes.ensures) (c.finish.ensures _ _ _ (search wrote_steps))

@@ -4,4 +4,4 @@ use Rattle.wfsd.proofs.transacted.put_reply.Goals as goal
 
 pub returns : goal.returns
 unfolding reply_text
-returns g c = rw (← c.reply_length.ensures) (c.finish.ensures _ _ (search wrote_steps depth 12))
+returns g c = rw (← c.reply_length.ensures) (c.finish.ensures _ _ _ (search wrote_steps depth 12))

@@ -1,6 +1,0 @@
-use Rattle.std.proofs.Common.{◌≡◌, ◌++◌, drop}
-use Rattle.std.specs.Prelude.{string_bytes, encode_utf8_all}
-use Rattle.doc_read.proofs.value.add_characters.Given as goal
-
-abbrev pub invariant-loop-c : goal.invariant-loop-c
-invariant-loop-c l = string_bytes l.text ++ encode_utf8_all (drop l.c-index l.cs) ≡ string_bytes l.fn.text ++ encode_utf8_all l.cs
