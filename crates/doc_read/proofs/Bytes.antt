@@ -1,5 +1,5 @@
 -- What the bytes of a text say of its characters.
-use Rattle.std.proofs.Common.{◌≡◌, ℕ, suc, ◌+◌, ◌/◌, ◌%◌, ◌<◌, ◌≤◌, Bool, true, false, cond, ◌||◌, ◌⊎◌, eqb, ltb, List, [], ◌∷◌, ◌++◌, map, refl, sym, ap, subst, ◌∙◌, arith, inl, inr}
+use Rattle.std.proofs.Common.{◌≡◌, ℕ, suc, ◌+◌, ◌/◌, ◌%◌, ◌<◌, ◌≤◌, Bool, true, false, cond, ◌||◌, eqb, ltb, List, [], ◌∷◌, map, refl, sym, ap, subst, ◌∙◌, arith, inl, inr}
 use lib.Utf8.{scalar, scalars, scalar_cases}
 use Rattle.std.specs.Prelude.{◌==◌, codes, encode_utf8_all}
 use Rattle.std.specs.Char.{encode_utf8, to_ascii_lowercase}
@@ -93,9 +93,9 @@ plain_bytes bs text plain = plain_all (chars bs) (scalars-chars bs text) (ap (li
 
 lower_below : (c : ℕ) → to_ascii_lowercase c < 128 → c < 128
 lower_below c lt = elim (cases_lt c 128) [
-      | inl below ↦ below
-      | inr le ↦ let same = (lowercase_is c).2 (omega arith) in absurd (omega (arith, same))
-    ]
+  | inl below ↦ below
+  | inr le ↦ let same = (lowercase_is c).2 (omega arith) in absurd (omega (arith, same))
+]
 
 lower_ascii : (cs : List ℕ) → IsAscii (map to_ascii_lowercase cs) → IsAscii cs
 lower_ascii [] is = is

@@ -13,11 +13,11 @@ ghost use Rattle.doc_tree.specs.declared.tree.Element.{Element};
 
 use crate::declaration::declaration_at;
 use crate::fault::DocFault;
+use crate::front::{first, has, is_empty};
 use crate::inside::remark_at;
 use crate::level::Level;
 use crate::lex::{expected_at, is_allowed, skip_space};
 use crate::scope::xml_bound;
-use crate::front::{first, has, is_empty};
 use crate::tree::element;
 use doc_tree::Element;
 use std::alloc::{AllocError, Global};
