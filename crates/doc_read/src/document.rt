@@ -124,7 +124,7 @@ fn unmarked(cs: &str) -> &str
 fn is_plain(byte: u8) -> bool
     ensures { result ≡ is_plain byte }
 {
-    byte >= b' ' && byte != 0xef || byte == b'\t' || byte == b'\n' || byte == b'\r'
+    (byte >= b' ' && byte != 0xef) || byte == b'\t' || byte == b'\n' || byte == b'\r'
 }
 
 fn all_plain(bytes: &[u8]) -> bool
