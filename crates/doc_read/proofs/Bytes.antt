@@ -1,5 +1,5 @@
 -- What the bytes of a text say of its characters.
-use Rattle.std.proofs.Common.{◌≡◌, ℕ, suc, ◌+◌, ◌/◌, ◌%◌, ◌<◌, ◌≤◌, Bool, true, false, cond, ◌||◌, ◌⊎◌, eqb, ltb, List, [], ◌∷◌, ◌++◌, map, refl, sym, ap, subst, ◌∙◌, arith, inl, inr}
+use Rattle.std.proofs.Common.{◌≡◌, ℕ, suc, ◌+◌, ◌/◌, ◌%◌, ◌<◌, ◌≤◌, Bool, true, false, cond, ◌||◌, eqb, ltb, List, [], ◌∷◌, map, refl, sym, ap, subst, ◌∙◌, arith, inl, inr}
 use lib.Utf8.{scalar, scalars, scalar_cases}
 use Rattle.std.specs.Prelude.{◌==◌, codes, encode_utf8_all}
 use Rattle.std.specs.Char.{encode_utf8, to_ascii_lowercase}
@@ -11,43 +11,50 @@ use Rattle.std.proofs.lemmas.List.Folds.{list_any-append, list_all-append}
 use Rattle.std.proofs.lemmas.Bool.{cases_lt, eqb-true}
 use Rattle.std.proofs.lemmas.Bool.Decides.{same_from_decides, Decides-like, nat_tests}
 use Rattle.std.proofs.lemmas.Slice.Eq.{bytes_eq-Decides}
-use Rattle.doc_read.specs.Chars.{is_allowed}
+use Rattle.doc_read.specs.declared.word.Word.TheVariants.{SectionEnd}
+use Rattle.doc_read.specs.Chars.{is_allowed, begins, contains}
 use Rattle.doc_read.specs.Rest.{is_plain}
 use Rattle.doc_read.proofs.Fronts.{both}
+use Rattle.doc_read.proofs.Words.{contains_end, contains_later}
+use Rattle.doc_read.proofs.Marks.{neither, begins_cons}
 
--- ---- carriage returns
+-- ---- a byte of ASCII, which only its own character has
 
-abbrev is_return : ℕ → Bool
-is_return b = b == 13
-
-no_return : (n : ℕ) → 13 < n → is_return n ≡ false
-no_return n lt = grind (arith, nat_tests)
+other : (byte n : ℕ) → byte < 128 → 128 ≤ n → (n == byte) ≡ false
+other byte n lt le = grind (arith, nat_tests)
 
 alone : (b : Bool) → (b || false) ≡ b
 alone true = refl
 alone false = refl
 
-encode_return : (c : ℕ) → list_any is_return (encode_utf8 c) ≡ is_return c
+encode_has : (byte c : ℕ) → byte < 128 → list_any (λ d. d == byte) (encode_utf8 c) ≡ (c == byte)
 unfolding encode_utf8
-encode_return c =
+encode_has byte c ascii =
     elim (cases_lt c 128) [
-      | inl lt ↦ ap (list_any is_return) (encode_ascii c lt) ∙ alone (is_return c)
-      | inr le ↦ more (ltb c 128) (ltb c 2048) (ltb c 65536) refl le
+      | inl lt ↦ ap (list_any (λ d. d == byte)) (encode_ascii c lt) ∙ alone (c == byte)
+      | inr le ↦ more (ltb c 128) (ltb c 2048) (ltb c 65536) le
     ]
   where
-    more : (x y z : Bool) → ltb c 128 ≡ x → 128 ≤ c
-        → list_any is_return (cond x (c ∷ []) (cond y ((192 + c / 64) ∷ (128 + c % 64) ∷ []) (cond z ((224 + c / 4096) ∷ (128 + (c / 64) % 64) ∷ (128 + c % 64) ∷ []) ((240 + c / 262144) ∷ (128 + (c / 4096) % 64) ∷ (128 + (c / 64) % 64) ∷ (128 + c % 64) ∷ [])))) ≡ is_return c
-    more true y z is le = alone (is_return c)
-    more false true z is le = rw (no_return c (omega arith), no_return (192 + c / 64) (omega arith), no_return (128 + c % 64) (omega arith)) refl
-    more false false true is le = rw (no_return c (omega arith), no_return (224 + c / 4096) (omega arith), no_return (128 + (c / 64) % 64) (omega arith), no_return (128 + c % 64) (omega arith)) refl
-    more false false false is le = rw (no_return c (omega arith), no_return (240 + c / 262144) (omega arith), no_return (128 + (c / 4096) % 64) (omega arith), no_return (128 + (c / 64) % 64) (omega arith), no_return (128 + c % 64) (omega arith)) refl
+    more : (x y z : Bool) → 128 ≤ c
+        → list_any (λ d. d == byte) (cond x (c ∷ []) (cond y ((192 + c / 64) ∷ (128 + c % 64) ∷ []) (cond z ((224 + c / 4096) ∷ (128 + (c / 64) % 64) ∷ (128 + c % 64) ∷ []) ((240 + c / 262144) ∷ (128 + (c / 4096) % 64) ∷ (128 + (c / 64) % 64) ∷ (128 + c % 64) ∷ [])))) ≡ (c == byte)
+    more true y z le = alone (c == byte)
+    more false true z le = rw (other byte c ascii le, other byte (192 + c / 64) ascii (omega arith), other byte (128 + c % 64) ascii (omega arith)) refl
+    more false false true le = rw (other byte c ascii le, other byte (224 + c / 4096) ascii (omega arith), other byte (128 + (c / 64) % 64) ascii (omega arith), other byte (128 + c % 64) ascii (omega arith)) refl
+    more false false false le = rw (other byte c ascii le, other byte (240 + c / 262144) ascii (omega arith), other byte (128 + (c / 4096) % 64) ascii (omega arith), other byte (128 + (c / 64) % 64) ascii (omega arith), other byte (128 + c % 64) ascii (omega arith)) refl
 
-return_all : (cs : List ℕ) → list_any is_return (encode_utf8_all cs) ≡ list_any is_return cs
-return_all [] = refl
-return_all (c ∷ cs) = list_any-append is_return (encode_utf8 c) (encode_utf8_all cs) ∙ rw (encode_return c, return_all cs) refl
+encodes_have : (byte : ℕ) (cs : List ℕ) → byte < 128 → list_any (λ d. d == byte) (encode_utf8_all cs) ≡ list_any (λ d. d == byte) cs
+encodes_have byte [] ascii = refl
+encodes_have byte (c ∷ cs) ascii = list_any-append (λ d. d == byte) (encode_utf8 c) (encode_utf8_all cs) ∙ rw (encode_has byte c ascii, encodes_have byte cs ascii) refl
 
-pub return_bytes : (bs : List ℕ) → IsUtf8 bs → list_any is_return bs ≡ list_any is_return (chars bs)
-return_bytes bs text = ap (list_any is_return) (sym (encodes-chars bs text)) ∙ return_all (chars bs)
+pub chars_have : (byte : ℕ) (bs : List ℕ) → byte < 128 → IsUtf8 bs → list_any (λ d. d == byte) bs ≡ list_any (λ d. d == byte) (chars bs)
+chars_have byte bs ascii text = ap (list_any (λ d. d == byte)) (sym (encodes-chars bs text)) ∙ encodes_have byte (chars bs) ascii
+
+pub no_section_end : (cs : List ℕ) → list_any (λ d. d == 93) cs ≡ false → contains SectionEnd cs ≡ false
+no_section_end [] none = contains_end SectionEnd [] refl
+no_section_end (c ∷ cs) none =
+    let p = neither (c == 93) (list_any (λ d. d == 93) cs) none in
+    let here : begins SectionEnd (c ∷ cs) ≡ false = begins_cons 93 (93 ∷ 62 ∷ []) c cs ∙ rw p.0 refl in
+    contains_later SectionEnd c (c ∷ cs) cs refl here ∙ no_section_end cs p.1
 
 -- ---- plain bytes
 
@@ -86,9 +93,9 @@ plain_bytes bs text plain = plain_all (chars bs) (scalars-chars bs text) (ap (li
 
 lower_below : (c : ℕ) → to_ascii_lowercase c < 128 → c < 128
 lower_below c lt = elim (cases_lt c 128) [
-      | inl below ↦ below
-      | inr le ↦ let same = (lowercase_is c).2 (omega arith) in absurd (omega (arith, same))
-    ]
+  | inl below ↦ below
+  | inr le ↦ let same = (lowercase_is c).2 (omega arith) in absurd (omega (arith, same))
+]
 
 lower_ascii : (cs : List ℕ) → IsAscii (map to_ascii_lowercase cs) → IsAscii cs
 lower_ascii [] is = is

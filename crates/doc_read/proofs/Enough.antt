@@ -12,7 +12,7 @@ use Rattle.doc_read.specs.declared.lex.Class.TheVariants.{Space, NameStart, Text
 use Rattle.doc_read.specs.declared.scope.Bound.{Bound}
 use Rattle.doc_read.specs.Chars.{holds, starts, split_front, skip_space}
 use Rattle.doc_read.specs.Lex.{Part, part, plain, reference_at, value_piece, value_turn, inside_value, Raw, raw_attribute_at, attributes_at}
-use Rattle.doc_read.specs.Element.{Inside, ReadsElement, begun, element_at, marked_at, run_at, markup_at, piece_at, turn_at, content_at}
+use Rattle.doc_read.specs.Element.{Inside, begun, element_at, marked_at, run_at, markup_at, piece_at, turn_at, content_at}
 use Rattle.doc_read.specs.Document.{misc_turn, misc_at}
 use Rattle.doc_read.specs.Grammar.{SpellsRaw, print, print_piece, print_reference, spell, print_written}
 use Rattle.doc_read.proofs.Marks.{done}

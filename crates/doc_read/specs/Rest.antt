@@ -13,6 +13,6 @@ abbrev pub Skips : Class → Option (Bor (List ℕ)) → List ℕ → Type 0
 Skips class None text = starts class (chars text) ≡ false
 Skips class (Some rest) text = (c : ℕ) × (holds class c ≡ true) × (chars text ≡ c ∷ chars rest.now) × (length rest.now < length text) × (text ≡ encode_utf8 c ++ rest.now)
 
--- a byte that every character with it allows
+-- Bytes of allowed characters alone: what is not allowed is a control character, or begins with 0xef.
 abbrev pub is_plain : ℕ → Bool
 is_plain b = (nat_le 32 b && not (b == 0xef)) || b == 9 || b == 10 || b == 13

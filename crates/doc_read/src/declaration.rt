@@ -6,8 +6,8 @@ ghost use Rattle.doc_read.specs.Read.{GivesBy};
 ghost use Rattle.doc_read.specs.Declaration.{quoted_at, setting_at, fits, required_at, optional_at, settings_at, declaration_at};
 
 use crate::fault::DocFault;
-use crate::lex::{Class, expected_at, skip_space, split_front, starts};
 use crate::front::{first, same};
+use crate::lex::{Class, expected_at, skip_space, split_front, starts};
 use crate::word::{Word, begins, word_at};
 
 #[tactic(auto, unfolding(crate::specs::Declaration::quoted_at))]

@@ -1,7 +1,7 @@
 //! Whole documents.
 
-ghost use Rattle.std.specs.Prelude.{◌≡◌, ◌++◌, ◌==◌, false, List, ℕ, Ok, OnOk, IfOk, string_bytes, encode_utf8_all};
-ghost use Rattle.std.specs.List.{list_all, list_any};
+ghost use Rattle.std.specs.Prelude.{◌≡◌, ◌++◌, false, List, ℕ, Ok, OnOk, IfOk, string_bytes, encode_utf8_all};
+ghost use Rattle.std.specs.List.{list_all};
 ghost use Rattle.std.specs.Str.{chars};
 ghost use Rattle.doc_read.specs.Read.{Gives, GivesBy};
 ghost use Rattle.doc_read.specs.Chars.{is_allowed};
@@ -13,11 +13,11 @@ ghost use Rattle.doc_tree.specs.declared.tree.Element.{Element};
 
 use crate::declaration::declaration_at;
 use crate::fault::DocFault;
+use crate::front::{first, has, is_empty};
 use crate::inside::remark_at;
 use crate::level::Level;
 use crate::lex::{expected_at, is_allowed, skip_space};
 use crate::scope::xml_bound;
-use crate::front::{first, is_empty};
 use crate::tree::element;
 use doc_tree::Element;
 use std::alloc::{AllocError, Global};
@@ -124,7 +124,7 @@ fn unmarked(cs: &str) -> &str
 fn is_plain(byte: u8) -> bool
     ensures { result ≡ is_plain byte }
 {
-    byte >= b' ' && byte != 0xef || byte == b'\t' || byte == b'\n' || byte == b'\r'
+    (byte >= b' ' && byte != 0xef) || byte == b'\t' || byte == b'\n' || byte == b'\r'
 }
 
 fn all_plain(bytes: &[u8]) -> bool
@@ -155,17 +155,11 @@ fn all_allowed(cs: &str) -> bool
     each_allowed(cs)
 }
 
-fn has_return(cs: &str) -> bool
-    ensures { result ≡ list_any (λ c. c == 13) (chars cs.now) }
-{
-    cs.as_bytes().contains(&b'\r')
-}
-
 /// The tree of allowed characters.
 fn tree_of(alloc: Global, cs: &str) -> Result<Element, DocFault>
     ensures { Gives result (tree_at (line_feeds false (chars cs.now))) }
 {
-    if has_return(cs) {
+    if has(cs, b'\r') {
         let lines = line_feeds(alloc, cs)?;
         return tree_at(alloc, lines.as_str());
     }

@@ -1,6 +1,7 @@
 //! Texts, from their first character on.
 
 ghost use Rattle.std.specs.Prelude.{◌≡◌, ◌++◌, ◌<◌, ◌==◌, ◌∷◌, [], length, encode_utf8, MatchOption};
+ghost use Rattle.std.specs.List.{list_any};
 ghost use Rattle.std.specs.Str.{chars, bytes_eq};
 ghost use Rattle.doc_read.specs.Rest.{IsRest};
 
@@ -32,6 +33,14 @@ pub fn is_empty(text: &str) -> bool
         Some(_) => false,
         None => true,
     }
+}
+
+/// Whether a character of ASCII stands anywhere.
+pub fn has(text: &str, byte: u8) -> bool
+    requires { byte < 128 }
+    ensures { result ≡ list_any (λ c. c == byte) (chars text.now) }
+{
+    text.as_bytes().contains(&byte)
 }
 
 /// Whether two texts are the same.

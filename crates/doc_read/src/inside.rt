@@ -4,11 +4,13 @@ ghost use Rattle.std.specs.Prelude.{◌≡◌, map, string_bytes};
 ghost use Rattle.std.specs.List.{list_all};
 ghost use Rattle.std.specs.Str.{chars};
 ghost use Rattle.doc_read.specs.Read.{Gives, GivesBy};
-ghost use Rattle.doc_read.specs.Chars.{holds};
+ghost use Rattle.doc_read.specs.Chars.{holds, contains};
+ghost use Rattle.doc_read.specs.declared.word.Word.TheVariants as Word;
 ghost use Rattle.doc_read.specs.Lex.{spelled};
 ghost use Rattle.doc_read.specs.Element.{comment_at, remark_at, marked_at, run_at, closed_at, tree, made};
 
 use crate::fault::DocFault;
+use crate::front::has;
 use crate::head::Head;
 use crate::lex::{Class, Spelled, expected_at, skip_space, spelled_at, split_front};
 use crate::twins::same_spelling;
@@ -63,13 +65,24 @@ pub fn marked_at(cs: &str) -> Result<(&str, &str), DocFault>
     Ok(("", remark_at(cs)?))
 }
 
+/// Whether the end of a section stands anywhere.
+#[tactic(auto, using(crate::proofs::Bytes::no_section_end))]
+fn ends_section(run: &str) -> bool
+    ensures { result ≡ contains Word.SectionEnd (chars run.now) }
+{
+    if !has(run, b']') {
+        return false;
+    }
+    contains(Word::SectionEnd, run)
+}
+
 /// Characters up to the next markup or reference.
 #[tactic(auto, unfolding(crate::specs::Element::run_at, wfs_ends::specs::Read::unless))]
 pub fn run_at(cs: &str) -> Result<(&str, &str), DocFault>
     ensures { GivesBy (λ x. (chars x.0.now, chars x.1.now)) result (run_at (chars cs.now)) }
 {
     let (run, rest) = split_front(Class::Text, cs);
-    if contains(Word::SectionEnd, run) {
+    if ends_section(run) {
         return Err(DocFault::Malformed);
     }
     Ok((run, rest))

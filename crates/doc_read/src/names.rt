@@ -9,11 +9,11 @@ ghost use Rattle.doc_read.specs.Scope.{newest, space_of, element_name, attribute
 ghost use Rattle.doc_read.specs.Levels.{bounds_of};
 
 use crate::fault::DocFault;
+use crate::front::is_empty;
 use crate::level::Level;
 use crate::lex::Spelled;
 use crate::scope::{is_declaration, text_of};
 use crate::tag::RawAttribute;
-use crate::front::is_empty;
 use doc_tree::{Attribute, QName};
 use std::alloc::Global;
 use wfs_ends::{Mem, Text};

@@ -7,8 +7,8 @@ ghost use Rattle.doc_read.specs.Chars.{is_allowed};
 ghost use Rattle.doc_read.specs.Lex.{named_reference, name_reference_at, digit, number, number_reference_at, numbered_at, reference_at};
 
 use crate::fault::DocFault;
-use crate::lex::{Class, expected_at, is_allowed, name_at, split_front, starts};
 use crate::front::{first, same};
+use crate::lex::{Class, expected_at, is_allowed, name_at, split_front, starts};
 
 #[tactic(auto, using(crate::proofs::Rests::word_chars), unfolding(crate::specs::Lex::named_reference))]
 fn named_reference(name: &str) -> Result<char, DocFault>

@@ -7,9 +7,9 @@ ghost use Rattle.doc_read.specs.Lex.{raw_of, spelled};
 ghost use Rattle.doc_read.specs.Scope.{xml_scope, unbinds, declared_step, is_default, is_declaration, is_xml, declaration_of, declared_at};
 
 use crate::fault::DocFault;
+use crate::front::{is_empty, same};
 use crate::lex::Spelled;
 use crate::tag::RawAttribute;
-use crate::front::{is_empty, same};
 use std::alloc::Global;
 use wfs_ends::{Mem, Text};
 

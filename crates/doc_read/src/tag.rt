@@ -6,8 +6,8 @@ ghost use Rattle.doc_read.specs.Read.{GivesBy};
 ghost use Rattle.doc_read.specs.Lex.{raw_of, raw_attribute_at, attributes_at, tag_at, tag_of};
 
 use crate::fault::DocFault;
-use crate::lex::{Class, Spelled, expected_at, skip_space, spelled_at, starts};
 use crate::front::first;
+use crate::lex::{Class, Spelled, expected_at, skip_space, spelled_at, starts};
 use crate::value::value_at;
 use std::alloc::Global;
 use wfs_ends::Text;

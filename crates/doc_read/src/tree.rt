@@ -7,11 +7,11 @@ ghost use Rattle.doc_read.specs.Levels.{bounds_of};
 ghost use Rattle.doc_read.specs.Element.{inside_of, max_elements, admitted, turn_at, content_at, element_at};
 
 use crate::fault::DocFault;
+use crate::front::first;
 use crate::head::head_at;
 use crate::inside::{Inside, closed_at, made, marked_at, run_at, tree};
 use crate::level::Level;
 use crate::reference::reference_at;
-use crate::front::first;
 use crate::value::add_characters;
 use doc_tree::Element;
 use std::alloc::Global;

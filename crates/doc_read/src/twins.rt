@@ -4,9 +4,9 @@ ghost use Rattle.std.specs.Prelude.{◌≡◌, ◌++◌, ◌∷◌, map, IfOk, s
 ghost use Rattle.doc_read.specs.Lex.{raw_of, spelled};
 ghost use Rattle.doc_read.specs.Scope.{has_twins, written, spellings, expanded, expanded_names, same_spelling};
 
+use crate::front::same;
 use crate::lex::Spelled;
 use crate::tag::RawAttribute;
-use crate::front::same;
 use crate::value::add_characters;
 use doc_tree::{Attribute, QName};
 use std::alloc::Global;

@@ -6,9 +6,9 @@ ghost use Rattle.doc_read.specs.Read.{GivesBy};
 ghost use Rattle.doc_read.specs.Lex.{part, plain, value_turn, inside_value, value_at};
 
 use crate::fault::DocFault;
+use crate::front::first;
 use crate::lex::{Class, split_front};
 use crate::reference::reference_at;
-use crate::front::first;
 use std::alloc::{AllocError, Global};
 use wfs_ends::Text;
 
@@ -39,11 +39,7 @@ fn add_plain(text: &mut String, cs: &str) -> Result<(), AllocError>
 
 /// One piece of a value, and whether it was the quote that ends it.
 #[tactic(auto, unfolding(crate::specs::Lex::value_turn))]
-fn value_turn<'a>(
-    quote: char,
-    text: &mut String,
-    cs: &'a str,
-) -> Result<(bool, &'a str), DocFault>
+fn value_turn<'a>(quote: char, text: &mut String, cs: &'a str) -> Result<(bool, &'a str), DocFault>
     ensures { GivesBy (λ x. (x.0, part (string_bytes text.new) (chars x.1.now))) result (value_turn quote (part (string_bytes text.old) (chars cs.now))) }
 {
     match first(cs) {

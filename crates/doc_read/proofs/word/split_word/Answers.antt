@@ -26,6 +26,6 @@ loop-next-preserved c =
       same = (
         found ++ one ∷ [],
         c.loop-next.invariant.same.1 ∙ ap (λ x. found ++ x) c.in-Some.ensures.0 ∙ sym (append_assoc found (one ∷ []) next),
-        sym (split_later c.args.word found one _ next c.in-Some.ensures.0 c.in_default-after_word.ensures) ∙ c.loop-next.invariant.same.2
+        sym (split_later c.args.word found one _ next c.in-Some.ensures.0 c.in_default-after_word.ensures) ∙ c.loop-next.invariant.same.2,
       );
     }
