@@ -1,4 +1,5 @@
 pub mod Held
 pub mod Ids
+pub mod Kept
 pub mod Lock
 pub mod Steps

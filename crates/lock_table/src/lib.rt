@@ -1,15 +1,18 @@
 //! The locks of features: who holds what at each moment, and how locks are granted, renewed and released.
 #![tactic(auto)]
 
-mod among;
+mod holders;
 mod id;
 mod kept;
+mod numbered;
+mod swept;
 mod table;
 mod words;
 
 pub use id::LockId;
 pub use table::LockTable;
 pub use words::{LockFault, LockStatus, Release};
+
 
 #[cfg(test)]
 mod tests;

@@ -1,14 +1,19 @@
 ghost use Rattle.std.specs.Prelude.{◌≡◌, ◌+◌, ◌<◌, ◌≤◌, [], IsTrue, IfErr, OnOk, All, None, Err, length};
+ghost use Rattle.std.specs.HashMap.{spare};
 ghost use Rattle.lock_table.specs.declared.words.LockFault.TheVariants.{Full, OutOfMemory};
-ghost use Rattle.lock_table.specs.Held.{live, holder, first_held, is_live_number, status, features_of, HaveOneHolder};
+ghost use Rattle.lock_table.specs.declared.words.Release.TheVariants.{Whole, Touched};
+ghost use Rattle.lock_table.specs.Held.{live, holder, first_held, is_live_number, status, features_of, HaveOneHolder, AreNumbered};
+ghost use Rattle.lock_table.specs.Kept.{number_at, AreKept};
 ghost use Rattle.lock_table.specs.Steps.{granted, renewed, released};
 
-use crate::among;
+use crate::holders::Holders;
 use crate::id::LockId;
 use crate::kept::KeptLock;
+use crate::numbered;
+use crate::swept;
 use crate::words::{LockFault, LockStatus, Release};
 use feature_values::Rid;
-use std::alloc::Global;
+use std::alloc::{AllocError, Global};
 use std::marker::Model;
 use wfs_ends::List;
 
@@ -18,23 +23,27 @@ use wfs_ends::List;
 /// next lock may have, for which `reserve` has made room. No two live locks list one feature.
 #[derive(Drop)]
 pub struct LockTable {
+    // by rising numbers; those that have ended stay until `reserve` comes
     locks: Vec<KeptLock>,
+    holders: Holders,
     opening: u64,
     given: u64,
     last: u64,
+    spare: u64,
 }
 
 impl Model for LockTable {
-    ghost use Rattle.std.specs.Prelude.{if◌then◌else◌, nat_lt};
     ghost use Rattle.std.specs.Vec.{vec_len, vec_capacity};
+    ghost use Rattle.std.specs.HashMap.{spare as room};
     ghost use Rattle.lock_table.specs.Lock.{Locks};
-    ghost use Rattle.lock_table.specs.Held.{AreHeld};
+    ghost use Rattle.lock_table.specs.Held.{live};
+    ghost use Rattle.lock_table.specs.Kept.{number_at, AreKept, HasRoom};
 
     ghost Value = { Locks };
 
-    ghost view = { λ t. record { locks = t.locks.items; opening = t.opening; given = t.given; last = t.last; spare = if nat_lt (vec_len t.locks) (vec_capacity t.locks) then 18_446_744_073_709_551_615 else 0 } };
+    ghost view = { λ t. record { locks = live t.last t.locks.items; opening = t.opening; given = t.given; last = t.last; spare = t.spare } };
 
-    ghost invariant = { λ t. AreHeld t.last t.locks.items };
+    ghost invariant = { λ t. AreKept t.last t.given (number_at t.holders.numbers) t.locks.items × HasRoom t.spare (room t.holders.numbers) (vec_len t.locks) (vec_capacity t.locks) };
 }
 
 impl LockTable {
@@ -44,12 +53,15 @@ impl LockTable {
         ensures opening { result.opening ≡ opening }
         ensures given { result.given ≡ 0 }
         ensures last { result.last ≡ 0 }
+        ensures spare { result.spare ≡ 0 }
     {
         LockTable {
             locks: Vec::new(alloc),
+            holders: Holders::new(alloc),
             opening,
             given: 0,
             last: 0,
+            spare: 0,
         }
     }
 
@@ -58,8 +70,9 @@ impl LockTable {
         requires { self.now.last ≤ moment }
         ensures value { result ≡ holder self.now.locks moment feature }
         ensures one { HaveOneHolder self.now.locks }
+        ensures numbers { AreNumbered self.now.given self.now.locks }
     {
-        among::holder(self.locks.as_slice(), moment, &feature)
+        numbered::holder(self.locks.as_slice(), &self.holders, moment, &feature)
     }
 
     /// The first of these features that a lock holds at a moment.
@@ -67,7 +80,27 @@ impl LockTable {
         requires { self.now.last ≤ moment }
         ensures { result ≡ first_held self.now.locks moment features.now }
     {
-        among::first_held(self.locks.as_slice(), moment, features.items())
+        self.first_among(features.items(), moment)
+    }
+
+    fn first_among(&self, features: &[Rid], moment: u64) -> Option<Rid>
+        requires { self.now.last ≤ moment }
+        ensures { result ≡ first_held self.now.locks moment features.now }
+    {
+        for feature in features {
+            if self.holder(*feature, moment).is_some() {
+                return Some(*feature);
+            }
+        }
+        None
+    }
+
+    // Whether a number is that of a lock that is live at a moment.
+    fn is_live(&self, number: u64, moment: u64) -> bool
+        requires { self.now.last ≤ moment }
+        ensures { result ≡ is_live_number self.now.locks moment number }
+    {
+        numbered::is_live_number(self.locks.as_slice(), moment, number)
     }
 
     /// What an identifier stands for at a moment.
@@ -84,7 +117,7 @@ impl LockTable {
         if id.number == 0 || id.number > self.given {
             return LockStatus::NeverGiven;
         }
-        if among::is_live_number(self.locks.as_slice(), moment, id.number) {
+        if self.is_live(id.number, moment) {
             LockStatus::Live
         } else {
             LockStatus::Expired
@@ -96,7 +129,7 @@ impl LockTable {
         requires { IsTrue (is_live_number self.now.locks self.now.last number) }
         ensures { result.now ≡ features_of self.now.locks number }
     {
-        among::features_of(self.locks.as_slice(), number)
+        numbered::features_of(self.locks.as_slice(), number)
     }
 
     /// Makes room for a lock of so many features, where fewer than `limit` locks are live at the moment. No other call
@@ -113,18 +146,43 @@ impl LockTable {
         ensures same { self.new ≡ record self.old { spare = self.new.spare } }
         ensures kept { self.old.spare ≤ self.new.spare }
     {
-        let live = among::live_count(self.locks.as_slice(), moment);
+        self.sweep();
+        let live = self.live_count(moment);
         if limit <= live {
             return Err(LockFault::Full(live));
         }
-        // A list of features comes with its own memory, so a lock needs room for itself alone.
-        let _ = features;
+        self.make_room(features)?;
+        Ok(())
+    }
+
+    fn sweep(&mut self)
+        ensures { self.new ≡ self.old }
+    {
+        swept::sweep(&mut self.holders, &mut self.locks, self.last);
+    }
+
+    fn live_count(&self, moment: u64) -> u64
+        requires { self.now.last ≤ moment }
+        ensures { result ≡ length (live moment self.now.locks) }
+    {
+        swept::live_count(self.locks.as_slice(), moment)
+    }
+
+    fn make_room(&mut self, features: u64) -> Result<(), AllocError>
+        ensures room { OnOk result (features ≤ self.new.spare) }
+        ensures same { self.new ≡ record self.old { spare = self.new.spare } }
+        ensures kept { self.old.spare ≤ self.new.spare }
+    {
+        self.holders.reserve(features as usize)?;
         self.locks.reserve(1)?;
+        if self.spare < features {
+            self.spare = features;
+        }
         Ok(())
     }
 
     /// Grants a lock on features for a period in seconds, and answers its number: one more than the locks granted so
-    /// far. The lock is live until the moment plus the period.
+    /// far. The lock is live until the moment plus the period. The room that was made is used up.
     pub fn grant(&mut self, features: List<Rid>, moment: u64, period: u32) -> u64
         requires moment { self.old.last ≤ moment }
         requires some { 0 < length features }
@@ -136,12 +194,15 @@ impl LockTable {
         ensures opening { self.new.opening ≡ self.old.opening }
         ensures given { self.new.given ≡ self.old.given + 1 }
         ensures last { self.new.last ≡ moment }
+        ensures spare { self.new.spare ≡ 0 }
     {
         let number = self.given + 1;
+        self.holders.give(features.items(), number);
         let lock = KeptLock::new(number, features.into_items(), period, moment);
-        among::grant(&mut self.locks, lock, moment);
+        numbered::push(&mut self.locks, lock);
         self.given = number;
         self.last = moment;
+        self.spare = 0;
         number
     }
 
@@ -154,8 +215,9 @@ impl LockTable {
         ensures opening { self.new.opening ≡ self.old.opening }
         ensures given { self.new.given ≡ self.old.given }
         ensures last { self.new.last ≡ moment }
+        ensures spare { self.new.spare ≡ self.old.spare }
     {
-        among::renew(&mut self.locks, number, moment, period);
+        numbered::renew(&mut self.locks, number, moment, period);
         self.last = moment;
     }
 
@@ -168,8 +230,34 @@ impl LockTable {
         ensures opening { self.new.opening ≡ self.old.opening }
         ensures given { self.new.given ≡ self.old.given }
         ensures last { self.new.last ≡ moment }
+        ensures spare { self.new.spare ≡ self.old.spare }
     {
-        among::release(&mut self.locks, number, moment, touched.items(), how);
+        match how {
+            Release::Whole => self.release_whole(number, touched.items(), moment),
+            Release::Touched => self.release_touched(number, touched.items(), moment),
+        }
+    }
+
+    // `touched` has no say in what is released.
+    fn release_whole(&mut self, number: u64, touched: &[Rid], moment: u64)
+        requires moment { self.old.last ≤ moment }
+        requires live { IsTrue (is_live_number self.old.locks moment number) }
+        ensures { self.new ≡ record self.old { locks = released moment number touched.now Whole self.old.locks; last = moment } }
+    {
+        let _ = touched;
+        let features = numbered::features_of(self.locks.as_slice(), number);
+        self.holders.free(features, number);
+        numbered::end(&mut self.locks, number);
+        self.last = moment;
+    }
+
+    fn release_touched(&mut self, number: u64, touched: &[Rid], moment: u64)
+        requires moment { self.old.last ≤ moment }
+        requires live { IsTrue (is_live_number self.old.locks moment number) }
+        ensures { self.new ≡ record self.old { locks = released moment number touched.now Touched self.old.locks; last = moment } }
+    {
+        self.holders.free(touched, number);
+        numbered::leave(&mut self.locks, number, moment, &self.holders);
         self.last = moment;
     }
 }
