@@ -2,8 +2,8 @@
 
 use crate::{
     Boxed, Clock, InputFile, Joined, List, ListClock, MemLink, MemSink, MemSource, ReadEnd,
-    RealClock, Sink, Source, StandardInput, StandardOutput, Text, WriteEnd, WriteFault, flush_on,
-    put_all, put_on,
+    RealClock, Sink, Source, StandardInput, StandardOutput, Text, WriteEnd, WriteFault, put_all,
+    put_on,
 };
 use std::fs;
 use std::test::Fail;
@@ -19,7 +19,6 @@ fn a_sink_in_memory_gives_what_fits_and_fails_where_it_is_told(
     assert_eq!(rt; put_all(&mut sink, b"defg"), Err(WriteFault));
     assert_eq!(rt; sink.bytes(), b"abcde".as_slice());
     assert!(rt; put_on(&mut sink, true, b"x"));
-    assert!(rt; !flush_on(&mut sink, false));
     Ok(())
 }
 
@@ -37,7 +36,6 @@ fn a_joined_link_moves_the_bytes_of_its_halves(rt: HostRuntime) -> Result<(), Fa
         assert_eq!(rt; joined.take(&mut into), Ok(2));
         assert!(rt; joined.take(&mut into).is_err());
         assert_eq!(rt; put_all(&mut joined, b"xy"), Ok(()));
-        assert_eq!(rt; joined.flush(), Ok(()));
     }
     assert_eq!(rt; into.as_slice(), b"ab".as_slice());
     assert_eq!(rt; sink.bytes(), b"xy".as_slice());
@@ -50,7 +48,6 @@ fn a_joined_link_moves_the_bytes_of_its_halves(rt: HostRuntime) -> Result<(), Fa
     )?;
     assert_eq!(rt; link.take(&mut into), Ok(1));
     assert_eq!(rt; put_all(&mut link, b"mno"), Ok(()));
-    assert_eq!(rt; link.flush(), Ok(()));
     assert_eq!(rt; link.written(), b"mno".as_slice());
     Ok(())
 }
@@ -99,7 +96,6 @@ fn the_standard_ends_and_the_clock_of_the_machine_answer(rt: HostRuntime) -> Res
     assert!(rt; input.take(&mut into).is_ok());
     let mut out = WriteEnd::of(StandardOutput::of(&rt));
     assert_eq!(rt; put_all(&mut out, b"out\n"), Ok(()));
-    assert!(rt; out.flush().is_ok());
     let mut clock = RealClock::of(&rt);
     assert!(rt; clock.now() > 1_700_000_000);
     let mut twin = clock.twin(rt.alloc())?;
