@@ -140,3 +140,11 @@ swept_at last given i d holds new locks false lt is freed kept = swept_kept last
 pub swept_step : (last given i : ℕ) (d : Lock) (holds new : Rid → Option ℕ) (locks : List Lock) → i < length locks → ((f : Rid) → new f ≡ freed_of (get_or locks i d).number (ended_features last (get_or locks i d)) holds f)
     → AreKept last given holds locks → AreKept last given new locks
 swept_step last given i d holds new locks lt freed kept = swept_at last given i d holds new locks (is_live last (get_or locks i d)) lt refl freed kept
+
+-- a lock that is live no more is ended
+pub dead_kept : (last given number : ℕ) (features : List Rid) (holds new : Rid → Option ℕ) (locks : List Lock) → ((f : Rid) → new f ≡ freed_of number features holds f) → AreKept last given holds locks → AreKept last given new (changed_at number ended locks)
+dead_kept last given number features holds new locks freed kept = record {
+  rising = rising_changed 0 number ended locks (λ l. refl) kept.rising;
+  counted = all_changed (λ l. l.number ≤ given) (λ l. l.number ≤ given) number ended locks (λ l _ h. h) (λ l _ h. h) kept.counted;
+  held = all_changed (IsHeldBy last holds) (IsHeldBy last new) number ended locks (λ l e h is. absurd (never_live last l is)) (λ l e h live f. h live f ∙ sym (freed_others number features holds new freed l e f)) kept.held;
+  issued = λ f n e. kept.issued f n (freed_fewer number features holds new freed f n e) }

@@ -51,7 +51,7 @@ or_only : (a b : Bool) → b ≡ false → (a || b) ≡ a
 or_only true b e = refl
 or_only false b e = e
 
-live_here : (moment number : ℕ) (l : Lock) (ls : List Lock) → has_number number l ≡ true → AllByRecursion (HasNot number) ls → is_live_number (l ∷ ls) moment number ≡ is_live moment l
+pub live_here : (moment number : ℕ) (l : Lock) (ls : List Lock) → has_number number l ≡ true → AllByRecursion (HasNot number) ls → is_live_number (l ∷ ls) moment number ≡ is_live moment l
 live_here moment number l ls e h = rw e (or_only (is_live moment l) _ (none_live moment number ls h))
 
 number_here : (number : ℕ) (l : Lock) → l.number ≡ number → has_number number l ≡ true
@@ -62,7 +62,7 @@ number_below low [] i d r lt = absurd (omega (arith, lt))
 number_below low (l ∷ ls) zero d r lt = r.0
 number_below low (l ∷ ls) (suc i) d r lt = let more : l.number < (get_or ls i d).number = number_below l.number ls i d r.1 (omega (arith, lt)) in omega (arith, more, r.0)
 
-not_yet : (l : Lock) (ls : List Lock) (i : ℕ) (d : Lock) (number : ℕ) → IsRising l.number ls → i < length ls → (get_or ls i d).number ≡ number → has_number number l ≡ false
+pub not_yet : (l : Lock) (ls : List Lock) (i : ℕ) (d : Lock) (number : ℕ) → IsRising l.number ls → i < length ls → (get_or ls i d).number ≡ number → has_number number l ≡ false
 not_yet l ls i d number r lt e = let more : l.number < (get_or ls i d).number = number_below l.number ls i d r lt in grind (arith, more, e)
 
 pub live_at : (moment number low : ℕ) (locks : List Lock) (i : ℕ) (d : Lock) → IsRising low locks → i < length locks → (get_or locks i d).number ≡ number → is_live_number locks moment number ≡ is_live moment (get_or locks i d)

@@ -50,10 +50,12 @@ left_with moment features lock = record lock { features = features; deadline = i
 abbrev pub left_by : ℕ → (Rid → Option ℕ) → Lock → Lock
 left_by moment holds lock = left_with moment (filter (λ f. is_number lock.number (holds f)) lock.features) lock
 
--- room for a lock of so many features: in the map, and, where they are some, in the list
-pub record HasRoom (features : ℕ) (room : ℕ) (used : ℕ) (all : ℕ) : Type 0 where
+-- room for a lock of so many features: in the map, and, where they are some, in the list and the queue
+pub record HasRoom (features : ℕ) (room : ℕ) (used : ℕ) (all : ℕ) (queue : ℕ) : Type 0 where
   pub for_features : features ≤ room
   pub for_lock : 0 < features → used < all
+  pub for_entry : 0 < features → used < queue
+  pub for_entries : used ≤ queue
 
 -- the holder of a feature for which a map has this
 abbrev pub holder_by : List Lock → ℕ → Option ℕ → Option ℕ

@@ -46,6 +46,15 @@ impl Holders {
         self.numbers.reserve(more)
     }
 
+    // Gives back memory, where much of it is not needed.
+    pub fn shrink(&mut self)
+        ensures { (f : _) → number_at self.new.numbers f ≡ number_at self.old.numbers f }
+    {
+        if self.numbers.capacity() / 4 > self.numbers.len() {
+            self.numbers.shrink_to_fit();
+        }
+    }
+
     fn put(&mut self, feature: &Rid, number: u64)
         requires { 1 ≤ spare self.old.numbers }
         ensures held { (f : _) → number_at self.new.numbers f ≡ given_to number (feature.now ∷ []) (number_at self.old.numbers) f }

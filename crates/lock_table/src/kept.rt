@@ -57,6 +57,12 @@ impl KeptLock {
         self.number
     }
 
+    pub fn deadline(&self) -> u128
+        ensures { result ≡ self.now.deadline }
+    {
+        self.deadline
+    }
+
     pub fn features(&self) -> &[Rid]
         ensures { result.now ≡ self.now.features }
     {

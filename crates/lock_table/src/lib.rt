@@ -1,9 +1,11 @@
 //! The locks of features: who holds what at each moment, and how locks are granted, renewed and released.
 #![tactic(auto)]
 
+mod deadlines;
 mod holders;
 mod id;
 mod kept;
+mod noted;
 mod numbered;
 mod swept;
 mod table;

@@ -1,4 +1,4 @@
-ghost use Rattle.std.specs.Prelude.{◌≡◌, ◌<◌, MatchOption, length, false, HoldsAt, ◌++◌, [], ◌∷◌};
+ghost use Rattle.std.specs.Prelude.{◌≡◌, ◌+◌, ◌<◌, ◌≤◌, cond, MatchOption, length, false, HoldsAt, ◌++◌, [], ◌∷◌};
 ghost use Rattle.std.specs.Vec.{vec_len, vec_capacity};
 ghost use Rattle.std.specs.List.{AllByRecursion};
 ghost use Rattle.lock_table.specs.Kept.{number_at, holder_by, ended, left_by};
@@ -24,6 +24,19 @@ pub fn is_live_number(locks: &[KeptLock], moment: u64, number: u64) -> bool
     match place(locks, number) {
         Some(i) => locks[i].is_live(moment),
         None => false,
+    }
+}
+
+// How many locks have not been ended, where so many were before a change of the lock with this number.
+pub fn left_standing(locks: &[KeptLock], number: u64, before: u64) -> u64
+    requires rising { IsRising 0 locks.now }
+    requires some { is_live_number locks.now 0 number ≡ false → 1 ≤ before }
+    ensures { result + 1 ≡ before + cond (is_live_number locks.now 0 number) 1 0 }
+{
+    if is_live_number(locks, 0, number) {
+        before
+    } else {
+        before - 1
     }
 }
 
@@ -56,7 +69,8 @@ pub fn features_of(locks: &[KeptLock], number: u64) -> &[Rid]
 // Adds a lock, for which there is room.
 pub fn push(locks: &mut Vec<KeptLock>, lock: KeptLock)
     requires { vec_len locks.old < vec_capacity locks.old }
-    ensures { locks.new.items ≡ locks.old.items ++ lock ∷ [] }
+    ensures items { locks.new.items ≡ locks.old.items ++ lock ∷ [] }
+    ensures len { vec_len locks.new ≡ vec_len locks.old + 1 }
 {
     match locks.push(lock) {
         Ok(()) => (),

@@ -38,6 +38,16 @@ pub fn sweep(holders: &mut Holders, locks: &mut Vec<KeptLock>, last: u64)
     locks.retain(|lock| lock.is_live(last));
 }
 
+// Gives back room, where there is much of it.
+pub fn shrink(locks: &mut Vec<KeptLock>)
+    ensures items { locks.new.items ≡ locks.old.items }
+    ensures len { vec_len locks.new ≡ vec_len locks.old }
+{
+    if locks.capacity() / 4 > locks.len() {
+        locks.shrink_to_fit();
+    }
+}
+
 pub fn live_count(locks: &[KeptLock], moment: u64) -> u64
     ensures { result ≡ length (live moment locks.now) }
 {

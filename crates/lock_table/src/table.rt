@@ -6,9 +6,11 @@ ghost use Rattle.lock_table.specs.Held.{live, holder, first_held, is_live_number
 ghost use Rattle.lock_table.specs.Kept.{number_at, AreKept};
 ghost use Rattle.lock_table.specs.Steps.{granted, renewed, released};
 
+use crate::deadlines::Deadlines;
 use crate::holders::Holders;
 use crate::id::LockId;
 use crate::kept::KeptLock;
+use crate::noted;
 use crate::numbered;
 use crate::swept;
 use crate::words::{LockFault, LockStatus, Release};
@@ -26,6 +28,9 @@ pub struct LockTable {
     // by rising numbers; those that have ended stay until `reserve` comes
     locks: Vec<KeptLock>,
     holders: Holders,
+    deadlines: Deadlines,
+    // how many of the locks have not been ended
+    standing: u64,
     opening: u64,
     given: u64,
     last: u64,
@@ -35,6 +40,9 @@ pub struct LockTable {
 impl Model for LockTable {
     ghost use Rattle.std.specs.Vec.{vec_len, vec_capacity};
     ghost use Rattle.std.specs.HashMap.{spare as room};
+    ghost use Rattle.std.specs.Prelude.{◌≡◌, length};
+    ghost use Rattle.std.specs.BinaryHeap.{heap_items, heap_capacity};
+    ghost use Rattle.lock_table.specs.Queue.{AreQueued};
     ghost use Rattle.lock_table.specs.Lock.{Locks};
     ghost use Rattle.lock_table.specs.Held.{live};
     ghost use Rattle.lock_table.specs.Kept.{number_at, AreKept, HasRoom};
@@ -43,7 +51,7 @@ impl Model for LockTable {
 
     ghost view = { λ t. record { locks = live t.last t.locks.items; opening = t.opening; given = t.given; last = t.last; spare = t.spare } };
 
-    ghost invariant = { λ t. AreKept t.last t.given (number_at t.holders.numbers) t.locks.items × HasRoom t.spare (room t.holders.numbers) (vec_len t.locks) (vec_capacity t.locks) };
+    ghost invariant = { λ t. AreKept t.last t.given (number_at t.holders.numbers) t.locks.items × HasRoom t.spare (room t.holders.numbers) (vec_len t.locks) (vec_capacity t.locks) (heap_capacity t.deadlines.queue) × AreQueued (heap_items t.deadlines.queue) t.locks.items × (t.standing ≡ length (live 0 t.locks.items)) };
 }
 
 impl LockTable {
@@ -58,6 +66,8 @@ impl LockTable {
         LockTable {
             locks: Vec::new(alloc),
             holders: Holders::new(alloc),
+            deadlines: Deadlines::new(alloc),
+            standing: 0,
             opening,
             given: 0,
             last: 0,
@@ -146,7 +156,12 @@ impl LockTable {
         ensures same { self.new ≡ record self.old { spare = self.new.spare } }
         ensures kept { self.old.spare ≤ self.new.spare }
     {
-        self.sweep();
+        if self.is_stale() {
+            self.sweep();
+        }
+        if self.spare == 0 {
+            self.shrink();
+        }
         let live = self.live_count(moment);
         if limit <= live {
             return Err(LockFault::Full(live));
@@ -159,13 +174,33 @@ impl LockTable {
         ensures { self.new ≡ self.old }
     {
         swept::sweep(&mut self.holders, &mut self.locks, self.last);
+        self.standing = self.locks.as_slice().len() as u64;
+    }
+
+    // Gives back room that is not needed. None may have been promised.
+    fn shrink(&mut self)
+        requires { self.old.spare ≡ 0 }
+        ensures { self.new ≡ self.old }
+    {
+        self.holders.shrink();
+        swept::shrink(&mut self.locks);
+        self.deadlines.shrink(self.locks.len());
+    }
+
+    // Whether half of the locks that are kept have ended.
+    fn is_stale(&self) -> bool {
+        self.locks.len() as u64 / 2 >= self.standing
     }
 
     fn live_count(&self, moment: u64) -> u64
         requires { self.now.last ≤ moment }
         ensures { result ≡ length (live moment self.now.locks) }
     {
-        swept::live_count(self.locks.as_slice(), moment)
+        if self.deadlines.is_due(moment) {
+            swept::live_count(self.locks.as_slice(), moment)
+        } else {
+            self.standing
+        }
     }
 
     fn make_room(&mut self, features: u64) -> Result<(), AllocError>
@@ -175,6 +210,7 @@ impl LockTable {
     {
         self.holders.reserve(features as usize)?;
         self.locks.reserve(1)?;
+        self.deadlines.reserve(self.locks.len() + 1)?;
         if self.spare < features {
             self.spare = features;
         }
@@ -197,13 +233,28 @@ impl LockTable {
         ensures spare { self.new.spare ≡ 0 }
     {
         let number = self.given + 1;
+        self.add_lock(features, moment, period);
+        self.expire();
+        number
+    }
+
+    fn add_lock(&mut self, features: List<Rid>, moment: u64, period: u32)
+        requires moment { self.old.last ≤ moment }
+        requires some { 0 < length features }
+        requires free { All (λ feature. holder self.old.locks moment feature ≡ None) features }
+        requires room { length features ≤ self.old.spare }
+        requires numbers { self.old.given < 18_446_744_073_709_551_615 }
+        ensures { self.new ≡ record self.old { locks = granted moment self.old.given features period self.old.locks; given = self.old.given + 1; last = moment; spare = 0 } }
+    {
+        let number = self.given + 1;
         self.holders.give(features.items(), number);
         let lock = KeptLock::new(number, features.into_items(), period, moment);
+        self.standing += lock.live_count(0);
         numbered::push(&mut self.locks, lock);
+        noted::note(&mut self.deadlines, self.locks.as_slice(), number);
         self.given = number;
         self.last = moment;
         self.spare = 0;
-        number
     }
 
     /// Gives a live lock a period in seconds, or leaves it its own where none is given. The period counts from the
@@ -217,7 +268,18 @@ impl LockTable {
         ensures last { self.new.last ≡ moment }
         ensures spare { self.new.spare ≡ self.old.spare }
     {
+        self.renew_lock(number, moment, period);
+        self.expire();
+    }
+
+    fn renew_lock(&mut self, number: u64, moment: u64, period: Option<u32>)
+        requires moment { self.old.last ≤ moment }
+        requires live { IsTrue (is_live_number self.old.locks moment number) }
+        ensures { self.new ≡ record self.old { locks = renewed moment number period self.old.locks; last = moment } }
+    {
         numbered::renew(&mut self.locks, number, moment, period);
+        noted::note(&mut self.deadlines, self.locks.as_slice(), number);
+        self.standing = numbered::left_standing(self.locks.as_slice(), number, self.standing);
         self.last = moment;
     }
 
@@ -236,6 +298,7 @@ impl LockTable {
             Release::Whole => self.release_whole(number, touched.items(), moment),
             Release::Touched => self.release_touched(number, touched.items(), moment),
         }
+        self.expire();
     }
 
     // `touched` has no say in what is released.
@@ -248,6 +311,7 @@ impl LockTable {
         let features = numbered::features_of(self.locks.as_slice(), number);
         self.holders.free(features, number);
         numbered::end(&mut self.locks, number);
+        self.standing = numbered::left_standing(self.locks.as_slice(), number, self.standing);
         self.last = moment;
     }
 
@@ -258,6 +322,37 @@ impl LockTable {
     {
         self.holders.free(touched, number);
         numbered::leave(&mut self.locks, number, moment, &self.holders);
+        noted::note(&mut self.deadlines, self.locks.as_slice(), number);
+        self.standing = numbered::left_standing(self.locks.as_slice(), number, self.standing);
         self.last = moment;
+    }
+
+    // Ends the locks whose deadline has come, and gives back the memory of what they held.
+    fn expire(&mut self)
+        ensures { self.new ≡ self.old }
+    {
+        for _ in 0..self.deadlines.len() {
+            if !self.deadlines.is_due(self.last) {
+                return;
+            }
+            self.expire_one();
+        }
+    }
+
+    // Looks at the lock of the soonest entry.
+    fn expire_one(&mut self)
+        ensures { self.new ≡ self.old }
+    {
+        let Some(number) = self.deadlines.pop() else {
+            return;
+        };
+        if numbered::is_live_number(self.locks.as_slice(), self.last, number) {
+            noted::note(&mut self.deadlines, self.locks.as_slice(), number);
+        } else if numbered::is_live_number(self.locks.as_slice(), 0, number) {
+            let features = numbered::features_of(self.locks.as_slice(), number);
+            self.holders.free(features, number);
+            numbered::end(&mut self.locks, number);
+            self.standing = numbered::left_standing(self.locks.as_slice(), number, self.standing);
+        }
     }
 }
