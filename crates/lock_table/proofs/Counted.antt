@@ -38,7 +38,7 @@ counted_at number change l ls false has same r more =
     let before : is_live_number (l ∷ ls) 0 number ≡ is_live_number ls 0 number = rw has refl in
     let after : is_live_number (l ∷ changed_at number change ls) 0 number ≡ is_live_number (changed_at number change ls) 0 number = rw has refl in
     subst (λ (xs : List Lock). length (live 0 xs) + one_if (is_live_number (l ∷ ls) 0 number) ≡ length (live 0 (l ∷ ls)) + one_if (is_live_number xs 0 number)) (sym is)
-        (rw (before, after) (one_before (is_live 0 l) l (live 0 ls) (live 0 (changed_at number change ls)) (one_if (is_live_number ls 0 number)) (one_if (is_live_number (changed_at number change ls) 0 number)) more))
+    (rw (before, after) (one_before (is_live 0 l) l (live 0 ls) (live 0 (changed_at number change ls)) (one_if (is_live_number ls 0 number)) (one_if (is_live_number (changed_at number change ls) 0 number)) more))
 
 pub counted : (number low : ℕ) (change : Lock → Lock) (locks : List Lock) → ((m : Lock) → (change m).number ≡ m.number) → IsRising low locks
     → length (live 0 (changed_at number change locks)) + one_if (is_live_number locks 0 number) ≡ length (live 0 locks) + one_if (is_live_number (changed_at number change locks) 0 number)
@@ -68,6 +68,7 @@ stands moment number (l ∷ ls) e = either_as (has_number number l && is_live mo
 one_more_at : (b : Bool) (l : Lock) (xs ys : List Lock) (n : ℕ) → length ys ≡ length xs + n → length (cond b (l ∷ ys) ys) ≡ length (cond b (l ∷ xs) xs) + n
 one_more_at true l xs ys n e = omega (arith, e)
 one_more_at false l xs ys n e = e
+
 last_one : (b : Bool) (l : Lock) → length (cond b (l ∷ []) []) ≡ one_if b
 last_one true l = refl
 last_one false l = refl

@@ -74,9 +74,10 @@ module _ (last moment given period : ℕ) (features : List Rid) (holds new : Rid
     counted = all_more (λ l. l.number ≤ given + 1) locks (new_lock given features moment period) (all_weaker (λ l. l.number ≤ given) (λ l. l.number ≤ given + 1) locks (λ l n. omega (arith, n)) kept.counted) (omega arith);
     held = all_more (IsHeldBy moment new) locks (new_lock given features moment period)
         (all_weaker (λ l. (IsHeldBy last holds l × (l.number ≤ given)) × IsFreeIn moment features l) (IsHeldBy moment new) locks old_held
-            (all_both (λ l. IsHeldBy last holds l × (l.number ≤ given)) (IsFreeIn moment features) locks (all_both (IsHeldBy last holds) (λ l. l.number ≤ given) locks kept.held kept.counted) (all_free moment features locks free)))
+        (all_both (λ l. IsHeldBy last holds l × (l.number ≤ given)) (IsFreeIn moment features) locks (all_both (IsHeldBy last holds) (λ l. l.number ≤ given) locks kept.held kept.counted) (all_free moment features locks free)))
         (λ _ f. rw (given_all f) (new_at given (is_among f features) (holds f) (kept.issued f)));
-    issued = λ f n e. issued_at (is_among f features) (holds f) n (sym (given_all f) ∙ e) (kept.issued f n) }
+    issued = λ f n e. issued_at (is_among f features) (holds f) n (sym (given_all f) ∙ e) (kept.issued f n);
+  }
 
 -- the features that the table sees to be free are free among the kept locks
 pub free_kept : (last moment : ℕ) (features : List Rid) (locks : List Lock) → last ≤ moment → All (λ f. holder (live last locks) moment f ≡ None) features → (f : Rid) → is_among f features ≡ true → holder locks moment f ≡ None
@@ -111,10 +112,12 @@ IsLeft last number touched new lock = has_number number lock ≡ true → (is_li
 
 is_left : (last number : ℕ) (touched : List Rid) (holds new : Rid → Option ℕ) (lock : Lock) → ((f : Rid) → new f ≡ freed_of number touched holds f) → IsHeldBy last holds lock × IsLiveAs last number lock → IsLeft last number touched new lock
 is_left last number touched holds new lock freed h e =
-    let same : lock.number ≡ number = is_number_of lock.number number e in
-    (h.1 e, filter_same (λ f. is_number lock.number (new f)) (λ f. not (is_among f touched)) lock.features
-        (each_listed (λ f. is_number lock.number (new f) ≡ not (is_among f touched)) lock.features
-            (λ f listed. rw (freed f, same) (stays_at number (is_among f touched) (holds f) (sym (h.0 (h.1 e) f ∙ rw same refl) ∙ listed)))))
+    let same : lock.number ≡ number = is_number_of lock.number number e in (
+      h.1 e,
+      filter_same (λ f. is_number lock.number (new f)) (λ f. not (is_among f touched)) lock.features
+          (each_listed (λ f. is_number lock.number (new f) ≡ not (is_among f touched)) lock.features
+          (λ f listed. rw (freed f, same) (stays_at number (is_among f touched) (holds f) (sym (h.0 (h.1 e) f ∙ rw same refl) ∙ listed)))),
+    )
 
 never : (moment : ℕ) → nat_lt moment 0 ≡ false
 never moment = grind arith
@@ -161,8 +164,8 @@ pub touched_left : (last moment given number : ℕ) (touched : List Rid) (holds 
 unfolding released
 touched_left last moment given number touched holds new locks le freed kept there =
     left_out last moment number touched new locks le
-        (all_weaker (λ l. IsHeldBy last holds l × IsLiveAs last number l) (IsLeft last number touched new) locks (λ l h. is_left last number touched holds new l freed h)
-            (all_both (IsHeldBy last holds) (IsLiveAs last number) locks kept.held (live_then last moment number 0 locks le kept.rising there)))
+    (all_weaker (λ l. IsHeldBy last holds l × IsLiveAs last number l) (IsLeft last number touched new) locks (λ l h. is_left last number touched holds new l freed h)
+    (all_both (IsHeldBy last holds) (IsLiveAs last number) locks kept.held (live_then last moment number 0 locks le kept.rising there)))
 
 -- what a renewal changes, and what a whole release ends
 pub change_seen : (last moment given number : ℕ) (change : Lock → Lock) (holds : Rid → Option ℕ) (locks : List Lock) → last ≤ moment → AreKept last given holds locks → is_live_number locks moment number ≡ true

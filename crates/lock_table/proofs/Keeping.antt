@@ -33,7 +33,8 @@ module _ (last moment given number : ℕ) (change : Lock → Lock) (holds new : 
     counted = all_changed (λ l. l.number ≤ given) (λ l. l.number ≤ given) number change locks (λ l _ h. subst (λ (n : ℕ). n ≤ given) (sym (same l)) h) (λ l _ h. h) kept.counted;
     held = all_changed (λ l. IsHeldBy last holds l × IsLiveAs moment number l) (IsHeldBy moment new) number change locks (λ l e h. this l e (h.1 e) h.0) (λ l e h. held_other l e h.0)
         (all_both (IsHeldBy last holds) (IsLiveAs moment number) locks kept.held (live_one moment number 0 locks kept.rising live));
-    issued = λ f n e. kept.issued f n (fewer f n e) }
+    issued = λ f n e. kept.issued f n (fewer f n e);
+  }
 
 pub renewed_kept : (last moment given number : ℕ) (period : Option ℕ) (holds : Rid → Option ℕ) (locks : List Lock) → last ≤ moment → AreKept last given holds locks → is_live_number locks moment number ≡ true
     → AreKept moment given holds (changed_at number (renewed_lock moment period) locks)
@@ -91,6 +92,7 @@ left_at number n false true true e is = refl
 left_at number n false true false e is = sym e
 left_at number n false false true e is = absurd (let bad = is in cc)
 left_at number n false false false e is = sym e
+
 left_held : (number : ℕ) (a b : Bool) (o : Option ℕ) → a ≡ is_number number o → (a && is_number number (if b && is_number number o then None else o)) ≡ is_number number (if b && is_number number o then None else o)
 left_held number true b o e = refl
 left_held number false true None e = refl
@@ -101,10 +103,10 @@ pub left_kept : (last moment given number : ℕ) (features : List Rid) (holds ne
     → is_live_number locks moment number ≡ true → AreKept moment given new (changed_at number (left_by moment new) locks)
 left_kept last moment given number features holds new locks le freed kept live =
     changed_kept last moment given number (left_by moment new) holds new locks le (λ l. refl) (freed_others number features holds new freed)
-        (λ l e is h _ f.
-            let same : l.number ≡ number = is_number_of l.number number e in
-            among_kept (λ g. is_number l.number (new g)) f l.features ∙ rw (freed f, same) (left_held number (is_among f l.features) (is_among f features) (holds f) (h (later_live last moment l le is) f ∙ rw same refl)))
-        (freed_fewer number features holds new freed) kept live
+    (λ l e is h _ f.
+    let same : l.number ≡ number = is_number_of l.number number e in
+    among_kept (λ g. is_number l.number (new g)) f l.features ∙ rw (freed f, same) (left_held number (is_among f l.features) (is_among f features) (holds f) (h (later_live last moment l le is) f ∙ rw same refl)))
+    (freed_fewer number features holds new freed) kept live
 
 -- features of a lock that has ended
 
@@ -116,21 +118,24 @@ swept_kept last given i d features holds new locks lt dead freed kept = record {
   held = all_weaker (λ l. IsHeldBy last holds l × (is_live last l ≡ true → HasNot (get_or locks i d).number l)) (IsHeldBy last new) locks
       (λ l h live f. h.0 live f ∙ sym (freed_others (get_or locks i d).number features holds new freed l (h.1 live) f))
       (all_both (IsHeldBy last holds) (λ l. is_live last l ≡ true → HasNot (get_or locks i d).number l) locks kept.held (ended_number last 0 locks i d kept.rising lt dead));
-  issued = λ f n e. kept.issued f n (freed_fewer (get_or locks i d).number features holds new freed f n e) }
+  issued = λ f n e. kept.issued f n (freed_fewer (get_or locks i d).number features holds new freed f n e);
+}
 
 pub filter_kept : (last given : ℕ) (q : Lock → Bool) (holds : Rid → Option ℕ) (locks : List Lock) → AreKept last given holds locks → AreKept last given holds (filter q locks)
 filter_kept last given q holds locks kept = record {
   rising = rising_filter 0 q locks kept.rising;
   counted = all_filter (λ l. l.number ≤ given) q locks kept.counted;
   held = all_filter (IsHeldBy last holds) q locks kept.held;
-  issued = kept.issued }
+  issued = kept.issued;
+}
 
 same_kept : (last given : ℕ) (holds new : Rid → Option ℕ) (locks : List Lock) → ((f : Rid) → new f ≡ holds f) → AreKept last given holds locks → AreKept last given new locks
 same_kept last given holds new locks same kept = record {
   rising = kept.rising;
   counted = kept.counted;
   held = all_weaker (IsHeldBy last holds) (IsHeldBy last new) locks (λ l h live f. rw (same f) (h live f)) kept.held;
-  issued = λ f n e. kept.issued f n (sym (same f) ∙ e) }
+  issued = λ f n e. kept.issued f n (sym (same f) ∙ e);
+}
 
 swept_at : (last given i : ℕ) (d : Lock) (holds new : Rid → Option ℕ) (locks : List Lock) (b : Bool) → i < length locks → is_live last (get_or locks i d) ≡ b
     → ((f : Rid) → new f ≡ freed_of (get_or locks i d).number (if b then [] else (get_or locks i d).features) holds f) → AreKept last given holds locks → AreKept last given new locks
@@ -147,4 +152,5 @@ dead_kept last given number features holds new locks freed kept = record {
   rising = rising_changed 0 number ended locks (λ l. refl) kept.rising;
   counted = all_changed (λ l. l.number ≤ given) (λ l. l.number ≤ given) number ended locks (λ l _ h. h) (λ l _ h. h) kept.counted;
   held = all_changed (IsHeldBy last holds) (IsHeldBy last new) number ended locks (λ l e h is. absurd (never_live last l is)) (λ l e h live f. h live f ∙ sym (freed_others number features holds new freed l e f)) kept.held;
-  issued = λ f n e. kept.issued f n (freed_fewer number features holds new freed f n e) }
+  issued = λ f n e. kept.issued f n (freed_fewer number features holds new freed f n e);
+}

@@ -49,7 +49,7 @@ same_filter p q (l ∷ ls) all = rw (all.0, same_filter p q ls all.1) refl
 pub standing_live : (moment : ℕ) (queue : List Due) (locks : List Lock) → AllByRecursion (λ e. moment < e.0.0) queue → AreQueued queue locks → live 0 locks ≡ live moment locks
 standing_live moment queue locks behind queued =
     sym (same_filter (is_live moment) (is_live 0) locks (all_weaker (λ l. is_live 0 l ≡ true → is_queued queue l ≡ true) (λ l. is_live moment l ≡ is_live 0 l) locks
-        (λ l h. same_liveness_at moment l (is_live 0 l) refl (λ stands. queued_live moment queue l behind (h stands))) queued))
+    (λ l h. same_liveness_at moment l (is_live 0 l) refl (λ stands. queued_live moment queue l behind (h stands))) queued))
 
 -- an entry comes, or goes
 
@@ -84,7 +84,7 @@ module _ (deadline number : ℕ) (old new : List Due) (entry : (p : Due → Bool
 pub popped : (deadline number : ℕ) (old new : List Due) (locks : List Lock) → ((p : Due → Bool) → list_any p old ≡ (p (due_at deadline number) || list_any p new)) → AreQueued old locks → AreQueuedBut number new locks
 popped deadline number old new locks entry queued =
     all_weaker (λ l. is_live 0 l ≡ true → is_queued old l ≡ true) (λ l. has_number number l ≡ false → is_live 0 l ≡ true → is_queued new l ≡ true) locks
-        (λ l h has stands. rw (entry (is_entry_of l), entry_is_not l deadline number has) at (h stands)) queued
+    (λ l h has stands. rw (entry (is_entry_of l), entry_is_not l deadline number has) at (h stands)) queued
 
 -- a lock changes, or comes
 
@@ -94,7 +94,7 @@ queued_but number queue locks queued = all_weaker (λ l. is_live 0 l ≡ true �
 pub changed_but : (number : ℕ) (change : Lock → Lock) (queue : List Due) (locks : List Lock) → ((l : Lock) → (change l).number ≡ l.number) → AreQueuedBut number queue locks → AreQueuedBut number queue (changed_at number change locks)
 changed_but number change queue locks same but =
     all_changed (λ l. has_number number l ≡ false → is_live 0 l ≡ true → is_queued queue l ≡ true) (λ l. has_number number l ≡ false → is_live 0 l ≡ true → is_queued queue l ≡ true) number change locks
-        (λ l e h not_it. absurd (let bad : has_number number (change l) ≡ true = ap (λ (n : ℕ). n == number) (same l) ∙ e in let worse = sym not_it ∙ bad in cc)) (λ l e h. h) but
+    (λ l e h not_it. absurd (let bad : has_number number (change l) ≡ true = ap (λ (n : ℕ). n == number) (same l) ∙ e in let worse = sym not_it ∙ bad in cc)) (λ l e h. h) but
 
 never_stands : (l : Lock) → is_live 0 (ended l) ≡ true → ⊥
 never_stands l e = grind (arith, e)

@@ -81,7 +81,6 @@ changed_there number low change [] i d r lt e = absurd (omega (arith, lt))
 changed_there number low change (l ∷ ls) zero d r lt e = rw (number_here number l e, none_changed number change ls (above l.number ls r.1 number (omega (arith, e)))) refl
 changed_there number low change (l ∷ ls) (suc i) d r lt e = rw (not_yet l ls i d number r.1 (omega (arith, lt)) e) (ap (λ (rest : List Lock). l ∷ rest) (changed_there number l.number change ls i d r.1 (omega (arith, lt)) e))
 
-
 -- a change of the lock at a place
 pub changed_place : (number : ℕ) (change : Lock → Lock) (locks : List Lock) (i : ℕ) (old new : Lock) → IsRising 0 locks → i < length locks → (get_or locks i old).number ≡ number → new ≡ change (get_or locks i old)
     → slice_set locks i new ≡ changed_at number change locks

@@ -15,6 +15,5 @@ pub use id::LockId;
 pub use table::LockTable;
 pub use words::{LockFault, LockStatus, Release};
 
-
 #[cfg(test)]
 mod tests;

@@ -14,7 +14,9 @@ pub fn place(locks: &[KeptLock], number: u64) -> Option<usize>
     requires { IsRising 0 locks.now }
     ensures { MatchOption result (AllByRecursion (λ lock. has_number number lock ≡ false) locks.now) (λ i. (i < length locks.now) × HoldsAt (λ lock. lock.number ≡ number) locks.now i) }
 {
-    locks.binary_search_by_key(&number, |lock| lock.number()).ok()
+    locks
+        .binary_search_by_key(&number, |lock| lock.number())
+        .ok()
 }
 
 pub fn is_live_number(locks: &[KeptLock], moment: u64, number: u64) -> bool
@@ -41,12 +43,7 @@ pub fn left_standing(locks: &[KeptLock], number: u64, before: u64) -> u64
 }
 
 // The number of the live lock that the map has at a feature.
-pub fn holder(
-    locks: &[KeptLock],
-    holders: &Holders,
-    moment: u64,
-    feature: &Rid,
-) -> Option<u64>
+pub fn holder(locks: &[KeptLock], holders: &Holders, moment: u64, feature: &Rid) -> Option<u64>
     requires { IsRising 0 locks.now }
     ensures { result ≡ holder_by locks.now moment (number_at holders.now.numbers feature.now) }
 {

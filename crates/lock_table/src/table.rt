@@ -10,10 +10,8 @@ use crate::deadlines::Deadlines;
 use crate::holders::Holders;
 use crate::id::LockId;
 use crate::kept::KeptLock;
-use crate::noted;
-use crate::numbered;
-use crate::swept;
 use crate::words::{LockFault, LockStatus, Release};
+use crate::{noted, numbered, swept};
 use feature_values::Rid;
 use std::alloc::{AllocError, Global};
 use std::marker::Model;
@@ -143,7 +141,8 @@ impl LockTable {
     }
 
     /// Makes room for a lock of so many features, where fewer than `limit` locks are live at the moment. No other call
-    /// takes memory. It ends no lock, and its moment does not count as given.
+    /// takes memory. It ends no lock, and its moment does not count as given. It gives back the memory of what has ended,
+    /// where that is much.
     ///
     /// # Errors
     ///
@@ -232,10 +231,9 @@ impl LockTable {
         ensures last { self.new.last ≡ moment }
         ensures spare { self.new.spare ≡ 0 }
     {
-        let number = self.given + 1;
         self.add_lock(features, moment, period);
         self.expire();
-        number
+        self.given
     }
 
     fn add_lock(&mut self, features: List<Rid>, moment: u64, period: u32)

@@ -7,4 +7,5 @@ abbrev pub invariant-loop-lock : goal.invariant-loop-lock
 invariant-loop-lock l = record {
   queued : AreQueued (heap_items l.deadlines.queue) (take l.lock-index l.locks);
   len : heap_len l.deadlines.queue ≤ l.lock-index;
-  capacity : heap_capacity l.fn.deadlines.queue ≤ heap_capacity l.deadlines.queue }
+  capacity : heap_capacity l.fn.deadlines.queue ≤ heap_capacity l.deadlines.queue;
+}

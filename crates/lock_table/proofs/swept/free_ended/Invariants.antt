@@ -6,4 +6,5 @@ use Rattle.lock_table.proofs.swept.free_ended.Given as goal
 abbrev pub invariant-loop-lock : goal.invariant-loop-lock
 invariant-loop-lock l = record {
   kept : (given : ℕ) → AreKept l.last given (number_at l.initial.holders.numbers) l.locks → AreKept l.last given (number_at l.holders.numbers) l.locks;
-  room : spare l.initial.holders.numbers ≤ spare l.holders.numbers }
+  room : spare l.initial.holders.numbers ≤ spare l.holders.numbers;
+}

@@ -11,4 +11,4 @@ returns-clause-locks c = filter_same _ _ _ (λ x b f' k. search rules) _ _ c.ret
 pub returns-clause-kept : goal.returns-clause-kept
 returns-clause-kept c = λ given kept. rw (returns-clause-locks c)
     (filter_kept c.args.last given (is_live c.args.last) (number_at c.free_ended.new.holders.numbers) c.args.locks.now.items
-        ((rw c.as_slice.ensures.value at (c.free_ended.ensures.kept given)) kept))
+    ((rw c.as_slice.ensures.value at (c.free_ended.ensures.kept given)) kept))

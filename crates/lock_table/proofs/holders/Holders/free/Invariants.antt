@@ -7,4 +7,5 @@ use Rattle.lock_table.proofs.holders.Holders.free.Given as goal
 abbrev pub invariant-loop-feature : goal.invariant-loop-feature
 invariant-loop-feature l = record {
   freed : (f : Rid) → number_at l.self.numbers f ≡ freed_of l.number (take l.feature-index l.features) (number_at l.initial.self.numbers) f;
-  room : spare l.initial.self.numbers ≤ spare l.self.numbers }
+  room : spare l.initial.self.numbers ≤ spare l.self.numbers;
+}

@@ -39,12 +39,13 @@ invariant_of-self c =
     let items : c.push.new.locks.items ≡ t.locks.items ++ new_lock t.given c.args.features c.args.moment c.args.period ∷ [] = c.push.ensures.items ∙ ap (λ (l : Lock). t.locks.items ++ l ∷ []) lock_is in
     let room : length c.args.features ≤ t.spare = subst (λ (s : Locks). length c.args.features ≤ s.spare) (sym c.self.view_is) c.requires.room in
     let some : 0 < t.spare = omega (arith, room, c.requires.some) in
-    let but : AreQueuedBut (t.given + 1) (heap_items t.deadlines.queue) (t.locks.items ++ c.new-lock.result ∷ []) = subst (λ (n : ℕ). AreQueuedBut n (heap_items t.deadlines.queue) (t.locks.items ++ c.new-lock.result ∷ [])) number (new_but c.new-lock.result (heap_items t.deadlines.queue) t.locks.items c.self.invariant.2) in
-    (subst (AreKept c.args.moment (t.given + 1) (number_at c.give.new.self.numbers)) (sym items)
-        (granted_kept t.last c.args.moment t.given c.args.period c.args.features (number_at t.holders.numbers) (number_at c.give.new.self.numbers) t.locks.items le given_all c.self.invariant.0 (free_kept t.last c.args.moment c.args.features t.locks.items le free)),
-     record { for_features = omega arith; for_lock = λ none. absurd (omega (arith, none)); for_entry = λ none. absurd (omega (arith, none)); for_entries = omega (arith, c.self.invariant.1.for_entry some, c.push.ensures.len, c.note.ensures.capacity) },
-     subst (AreQueued (heap_items c.note.new.deadlines.queue)) c.as_slice.ensures.value (c.note.ensures.queued (subst (AreQueuedBut (t.given + 1) (heap_items t.deadlines.queue)) (sym (c.as_slice.ensures.value ∙ c.push.ensures.items)) but)),
-     (ap (λ (n : ℕ). t.standing + n) c.live_count.ensures ∙ ap (λ (n : ℕ). n + one_if (is_live 0 c.new-lock.result)) c.self.invariant.3 ∙ sym (one_more c.new-lock.result t.locks.items) ∙ ap (λ (ls : List Lock). length (live 0 ls)) (sym c.push.ensures.items)))
+    let but : AreQueuedBut (t.given + 1) (heap_items t.deadlines.queue) (t.locks.items ++ c.new-lock.result ∷ []) = subst (λ (n : ℕ). AreQueuedBut n (heap_items t.deadlines.queue) (t.locks.items ++ c.new-lock.result ∷ [])) number (new_but c.new-lock.result (heap_items t.deadlines.queue) t.locks.items c.self.invariant.2) in (
+      subst (AreKept c.args.moment (t.given + 1) (number_at c.give.new.self.numbers)) (sym items)
+          (granted_kept t.last c.args.moment t.given c.args.period c.args.features (number_at t.holders.numbers) (number_at c.give.new.self.numbers) t.locks.items le given_all c.self.invariant.0 (free_kept t.last c.args.moment c.args.features t.locks.items le free)),
+      record { for_features = omega arith; for_lock = λ none. absurd (omega (arith, none)); for_entry = λ none. absurd (omega (arith, none)); for_entries = omega (arith, c.self.invariant.1.for_entry some, c.push.ensures.len, c.note.ensures.capacity) },
+      subst (AreQueued (heap_items c.note.new.deadlines.queue)) c.as_slice.ensures.value (c.note.ensures.queued (subst (AreQueuedBut (t.given + 1) (heap_items t.deadlines.queue)) (sym (c.as_slice.ensures.value ∙ c.push.ensures.items)) but)),
+      (ap (λ (n : ℕ). t.standing + n) c.live_count.ensures ∙ ap (λ (n : ℕ). n + one_if (is_live 0 c.new-lock.result)) c.self.invariant.3 ∙ sym (one_more c.new-lock.result t.locks.items) ∙ ap (λ (ls : List Lock). length (live 0 ls)) (sym c.push.ensures.items)),
+    )
 
 pub returns : goal.returns
 returns c =
@@ -53,4 +54,4 @@ returns c =
     let lock_is : c.new-lock.result ≡ new_lock t.given c.args.features c.args.moment c.args.period = cc in
     let items = ap (live c.args.moment) (c.push.ensures.items ∙ ap (λ (l : Lock). t.locks.items ++ l ∷ []) lock_is) ∙ sym (more_seen t.last c.args.moment (new_lock t.given c.args.features c.args.moment c.args.period) t.locks.items le) in
     ap (λ (ls : List Lock). record { locks = ls; opening = t.opening; given = t.given + 1; last = c.args.moment; spare = 0 }) items
-        ∙ ap (λ (s : Locks). record s { locks = granted c.args.moment s.given c.args.features c.args.period s.locks; given = s.given + 1; last = c.args.moment; spare = 0 }) c.self.view_is
+    ∙ ap (λ (s : Locks). record s { locks = granted c.args.moment s.given c.args.features c.args.period s.locks; given = s.given + 1; last = c.args.moment; spare = 0 }) c.self.view_is

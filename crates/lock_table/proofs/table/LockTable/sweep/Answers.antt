@@ -12,11 +12,12 @@ pub invariant_of-self : goal.invariant_of-self
 invariant_of-self c =
     let t = c.self.inside in
     let same : live 0 c.sweep.new.locks.items ≡ c.sweep.new.locks.items = rw c.sweep.ensures.locks (kept_live t.last t.locks.items) in
-    let count = ap (λ (ls : List Lock). length ls) c.as_slice.ensures.value in
-    (c.sweep.ensures.kept t.given c.self.invariant.0,
-     record { for_features = omega (arith, c.self.invariant.1.for_features, c.sweep.ensures.room); for_lock = λ some. omega (arith, c.self.invariant.1.for_lock some, c.sweep.ensures.len, c.sweep.ensures.capacity); for_entry = λ some. omega (arith, c.self.invariant.1.for_entry some, c.sweep.ensures.len); for_entries = omega (arith, c.self.invariant.1.for_entries, c.sweep.ensures.len) },
-     subst (AreQueued (heap_items t.deadlines.queue)) (sym c.sweep.ensures.locks) (all_filter (λ l. is_live 0 l ≡ true → is_queued (heap_items t.deadlines.queue) l ≡ true) (is_live t.last) t.locks.items c.self.invariant.2),
-     (count ∙ ap (λ (ls : List Lock). length ls) (sym same)))
+    let count = ap (λ (ls : List Lock). length ls) c.as_slice.ensures.value in (
+      c.sweep.ensures.kept t.given c.self.invariant.0,
+      record { for_features = omega (arith, c.self.invariant.1.for_features, c.sweep.ensures.room); for_lock = λ some. omega (arith, c.self.invariant.1.for_lock some, c.sweep.ensures.len, c.sweep.ensures.capacity); for_entry = λ some. omega (arith, c.self.invariant.1.for_entry some, c.sweep.ensures.len); for_entries = omega (arith, c.self.invariant.1.for_entries, c.sweep.ensures.len) },
+      subst (AreQueued (heap_items t.deadlines.queue)) (sym c.sweep.ensures.locks) (all_filter (λ l. is_live 0 l ≡ true → is_queued (heap_items t.deadlines.queue) l ≡ true) (is_live t.last) t.locks.items c.self.invariant.2),
+      (count ∙ ap (λ (ls : List Lock). length ls) (sym same)),
+    )
 
 pub returns : goal.returns
 returns c =
