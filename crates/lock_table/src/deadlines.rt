@@ -24,13 +24,16 @@ impl Deadlines {
         }
     }
 
-    // Makes room for more entries.
-    pub fn reserve(&mut self, more: usize) -> Result<(), AllocError>
+    // Makes room for so many entries that matter, and for about as many that matter no more.
+    pub fn reserve(&mut self, entries: usize) -> Result<(), AllocError>
         ensures items { heap_items self.new.queue ≡ heap_items self.old.queue }
-        ensures room { OnOk result (heap_len self.new.queue + more ≤ heap_capacity self.new.queue) }
+        ensures room { OnOk result (entries ≤ heap_capacity self.new.queue) }
         ensures kept { heap_capacity self.old.queue ≤ heap_capacity self.new.queue }
     {
-        self.queue.reserve(more)
+        if self.queue.capacity() / 2 >= entries {
+            return Ok(());
+        }
+        self.queue.reserve(entries)
     }
 
     pub fn len(&self) -> usize

@@ -23,7 +23,7 @@ use wfs_ends::List;
 /// next lock may have, for which `reserve` has made room. No two live locks list one feature.
 #[derive(Drop)]
 pub struct LockTable {
-    // by rising numbers; those that have ended stay until `reserve` comes
+    // by rising numbers; those that have ended stay until `reserve` takes them out
     locks: Vec<KeptLock>,
     holders: Holders,
     deadlines: Deadlines,
