@@ -1,4 +1,13 @@
 pub mod Callers
+pub mod Changes
+pub mod Counted
 pub mod Dashes
-pub mod Holders
+pub mod Granting
+pub mod Keeping
+pub mod Map
+pub mod OneHolder
+pub mod Place
+pub mod Queued
+pub mod Rising
+pub mod Seen
 pub mod Turns

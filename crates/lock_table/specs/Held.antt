@@ -1,7 +1,7 @@
 -- Who holds what at a moment. A moment is in seconds since 1970.
-use Rattle.std.specs.Prelude.{◌≡◌, ℕ, ◌≤◌, Bool, true, ◌&&◌, ◌||◌, ◌==◌, if◌then◌else◌, nat_lt, List, [], ◌∷◌, Option, Some, None, is_some, unwrap_or, length, All}
+use Rattle.std.specs.Prelude.{◌≡◌, ℕ, ◌<◌, ◌≤◌, ⊤, Bool, true, ◌&&◌, ◌||◌, ◌==◌, if◌then◌else◌, nat_lt, List, [], ◌∷◌, Option, Some, None, is_some, unwrap_or, length, All}
 use Rattle.std.specs.Option.{option_or}
-use Rattle.std.specs.List.{filter, list_any}
+use Rattle.std.specs.List.{filter, list_any, AllByRecursion}
 use Rattle.feature_values.specs.declared.feature.Rid.{Rid}
 use Rattle.lock_table.specs.declared.id.LockId.{LockId}
 use Rattle.lock_table.specs.declared.words.LockStatus.{LockStatus}
@@ -72,7 +72,12 @@ features_of locks number = unwrap_or (first_of (numbered number) locks) []
 abbrev pub HaveOneHolder : List Lock → Type 0
 HaveOneHolder locks = (feature : Rid) → length (filter (lists feature) locks) ≤ 1
 
--- what is true of every table: its locks are live at the last moment given, and no two of them list one feature
-pub record AreHeld (last : ℕ) (locks : List Lock) : Type 0 where
-  pub all_live : All (λ lock. is_live last lock ≡ true) locks
-  pub one_holder : HaveOneHolder locks
+-- the numbers of locks rise, and are above a number
+abbrev pub IsRising : ℕ → List Lock → Type 0
+IsRising low [] = ⊤
+IsRising low (lock ∷ locks) = (low < lock.number) × IsRising lock.number locks
+
+-- the numbers of locks rise, and are those of locks that were granted
+pub record AreNumbered (given : ℕ) (locks : List Lock) : Type 0 where
+  pub rising : IsRising 0 locks
+  pub counted : AllByRecursion (λ lock. lock.number ≤ given) locks

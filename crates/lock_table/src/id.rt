@@ -1,6 +1,7 @@
 ghost use Rattle.std.specs.Prelude.{◌≡◌};
-ghost use Rattle.feature_values.specs.Ids.{number_of};
 ghost use Rattle.lock_table.specs.Ids.{numbers_of, id_of};
+
+use feature_values::read_number;
 
 /// The identifier of a lock: the number of the opening of the service in which it was granted, and its own number
 /// among the locks of this opening, both from 1 on.
@@ -34,15 +35,4 @@ fn read_numbers(text: &str) -> Option<LockId>
     let number = read_number(number)?;
     let opening = read_number(opening)?;
     Some(LockId { opening, number })
-}
-
-#[tactic(auto, unfolding(feature_values::specs::Ids::number_of))]
-fn read_number(text: &str) -> Option<u64>
-    ensures { result ≡ number_of text.now }
-{
-    let bytes = text.as_bytes();
-    if bytes.is_empty() || bytes[0] == b'0' || bytes[0] == b'+' {
-        return None;
-    }
-    text.parse::<u64>().ok()
 }

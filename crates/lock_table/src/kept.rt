@@ -1,8 +1,10 @@
-ghost use Rattle.std.specs.Prelude.{◌≡◌, ◌+◌, ◌&&◌, not, cond, ◌==◌, length, if◌then◌else◌, Some, None};
+ghost use Rattle.std.specs.Prelude.{◌≡◌, ◌+◌, cond};
 ghost use Rattle.std.specs.List.{filter};
-ghost use Rattle.lock_table.specs.Held.{is_among, is_live, lists, has_number, held};
-ghost use Rattle.lock_table.specs.Steps.{renewed_lock, without};
+ghost use Rattle.lock_table.specs.Held.{is_live};
+ghost use Rattle.lock_table.specs.Kept.{is_number, number_at, ended, left_by};
+ghost use Rattle.lock_table.specs.Steps.{renewed_lock};
 
+use crate::holders::Holders;
 use feature_values::Rid;
 use std::marker::Model;
 
@@ -24,16 +26,11 @@ impl Model for KeptLock {
     ghost view = { λ l. record { number = l.number; features = l.features.items; period = l.period; deadline = l.deadline } };
 }
 
-pub fn is_among(feature: &Rid, features: &[Rid]) -> bool
-    ensures { result ≡ is_among feature.now features.now }
+// Keeps the features that a lock holds.
+fn keep_held(features: &mut Vec<Rid>, number: u64, holders: &Holders)
+    ensures { features.new.items ≡ filter (λ f. is_number number (number_at holders.now.numbers f)) features.old.items }
 {
-    features.contains(feature)
-}
-
-fn take_out(features: &mut Vec<Rid>, touched: &[Rid])
-    ensures { features.new.items ≡ filter (λ f. not (is_among f touched.now)) features.old.items }
-{
-    features.retain(|feature| !is_among(feature, touched));
+    features.retain(|feature| holders.is_held_by(feature, number));
 }
 
 fn end_of(moment: u64, period: u32) -> u128
@@ -60,10 +57,10 @@ impl KeptLock {
         self.number
     }
 
-    pub fn has_number(&self, number: u64) -> bool
-        ensures { result ≡ has_number number self.now }
+    pub fn deadline(&self) -> u128
+        ensures { result ≡ self.now.deadline }
     {
-        self.number == number
+        self.deadline
     }
 
     pub fn features(&self) -> &[Rid]
@@ -78,42 +75,11 @@ impl KeptLock {
         u128::from(moment) < self.deadline
     }
 
-    pub fn lists(&self, feature: &Rid) -> bool
-        ensures { result ≡ lists feature.now self.now }
-    {
-        is_among(feature, self.features.as_slice())
-    }
-
-    // The lock's number, if the lock is live and lists the feature.
-    pub fn held(&self, moment: u64, feature: &Rid) -> Option<u64>
-        ensures { result ≡ held moment feature.now self.now }
-    {
-        if self.is_live(moment) && self.lists(feature) {
-            Some(self.number)
-        } else {
-            None
-        }
-    }
-
     // 1 where the lock is live.
     pub fn live_count(&self, moment: u64) -> u64
         ensures { result ≡ cond (is_live moment self.now) 1 0 }
     {
         if self.is_live(moment) { 1 } else { 0 }
-    }
-
-    // Whether the lock has this number, and no feature.
-    pub fn is_empty(&self, number: u64) -> bool
-        ensures { result ≡ (has_number number self.now && (length self.now.features == 0)) }
-    {
-        self.number == number && self.features.is_empty()
-    }
-
-    // Whether the lock has this number, and is live.
-    pub fn is_live_number(&self, moment: u64, number: u64) -> bool
-        ensures { result ≡ (has_number number self.now && is_live moment self.now) }
-    {
-        self.has_number(number) && self.is_live(moment)
     }
 
     pub fn renew(&mut self, moment: u64, period: Option<u32>)
@@ -125,10 +91,24 @@ impl KeptLock {
         self.deadline = end_of(moment, self.period);
     }
 
-    pub fn leave(&mut self, moment: u64, touched: &[Rid])
-        ensures { self.new ≡ without moment touched.now self.old }
+    // Keeps what it holds by the map, and ends where this is nothing.
+    pub fn leave(&mut self, moment: u64, holders: &Holders)
+        ensures { self.new ≡ left_by moment (number_at holders.now.numbers) self.old }
     {
-        take_out(&mut self.features, touched);
-        self.deadline = end_of(moment, self.period);
+        keep_held(&mut self.features, self.number, holders);
+        self.deadline = if self.features.is_empty() {
+            0
+        } else {
+            end_of(moment, self.period)
+        };
+    }
+
+    // Ends the lock, and gives back the memory of its features.
+    pub fn end(&mut self)
+        ensures { self.new ≡ ended self.old }
+    {
+        self.features.clear();
+        self.features.shrink_to_fit();
+        self.deadline = 0;
     }
 }

@@ -1,9 +1,13 @@
 //! The locks of features: who holds what at each moment, and how locks are granted, renewed and released.
 #![tactic(auto)]
 
-mod among;
+mod deadlines;
+mod holders;
 mod id;
 mod kept;
+mod noted;
+mod numbered;
+mod swept;
 mod table;
 mod words;
 

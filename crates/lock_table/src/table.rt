@@ -1,14 +1,19 @@
 ghost use Rattle.std.specs.Prelude.{◌≡◌, ◌+◌, ◌<◌, ◌≤◌, [], IsTrue, IfErr, OnOk, All, None, Err, length};
+ghost use Rattle.std.specs.HashMap.{spare};
 ghost use Rattle.lock_table.specs.declared.words.LockFault.TheVariants.{Full, OutOfMemory};
-ghost use Rattle.lock_table.specs.Held.{live, holder, first_held, is_live_number, status, features_of, HaveOneHolder};
+ghost use Rattle.lock_table.specs.declared.words.Release.TheVariants.{Whole, Touched};
+ghost use Rattle.lock_table.specs.Held.{live, holder, first_held, is_live_number, status, features_of, HaveOneHolder, AreNumbered};
+ghost use Rattle.lock_table.specs.Kept.{number_at, AreKept};
 ghost use Rattle.lock_table.specs.Steps.{granted, renewed, released};
 
-use crate::among;
+use crate::deadlines::Deadlines;
+use crate::holders::Holders;
 use crate::id::LockId;
 use crate::kept::KeptLock;
 use crate::words::{LockFault, LockStatus, Release};
+use crate::{noted, numbered, swept};
 use feature_values::Rid;
-use std::alloc::Global;
+use std::alloc::{AllocError, Global};
 use std::marker::Model;
 use wfs_ends::List;
 
@@ -18,23 +23,33 @@ use wfs_ends::List;
 /// next lock may have, for which `reserve` has made room. No two live locks list one feature.
 #[derive(Drop)]
 pub struct LockTable {
+    // by rising numbers; those that have ended stay until `reserve` takes them out
     locks: Vec<KeptLock>,
+    holders: Holders,
+    deadlines: Deadlines,
+    // how many of the locks have not been ended
+    standing: u64,
     opening: u64,
     given: u64,
     last: u64,
+    spare: u64,
 }
 
 impl Model for LockTable {
-    ghost use Rattle.std.specs.Prelude.{if◌then◌else◌, nat_lt};
     ghost use Rattle.std.specs.Vec.{vec_len, vec_capacity};
+    ghost use Rattle.std.specs.HashMap.{spare as room};
+    ghost use Rattle.std.specs.Prelude.{◌≡◌, length};
+    ghost use Rattle.std.specs.BinaryHeap.{heap_items, heap_capacity};
+    ghost use Rattle.lock_table.specs.Queue.{AreQueued};
     ghost use Rattle.lock_table.specs.Lock.{Locks};
-    ghost use Rattle.lock_table.specs.Held.{AreHeld};
+    ghost use Rattle.lock_table.specs.Held.{live};
+    ghost use Rattle.lock_table.specs.Kept.{number_at, AreKept, HasRoom};
 
     ghost Value = { Locks };
 
-    ghost view = { λ t. record { locks = t.locks.items; opening = t.opening; given = t.given; last = t.last; spare = if nat_lt (vec_len t.locks) (vec_capacity t.locks) then 18_446_744_073_709_551_615 else 0 } };
+    ghost view = { λ t. record { locks = live t.last t.locks.items; opening = t.opening; given = t.given; last = t.last; spare = t.spare } };
 
-    ghost invariant = { λ t. AreHeld t.last t.locks.items };
+    ghost invariant = { λ t. AreKept t.last t.given (number_at t.holders.numbers) t.locks.items × HasRoom t.spare (room t.holders.numbers) (vec_len t.locks) (vec_capacity t.locks) (heap_capacity t.deadlines.queue) × AreQueued (heap_items t.deadlines.queue) t.locks.items × (t.standing ≡ length (live 0 t.locks.items)) };
 }
 
 impl LockTable {
@@ -44,12 +59,17 @@ impl LockTable {
         ensures opening { result.opening ≡ opening }
         ensures given { result.given ≡ 0 }
         ensures last { result.last ≡ 0 }
+        ensures spare { result.spare ≡ 0 }
     {
         LockTable {
             locks: Vec::new(alloc),
+            holders: Holders::new(alloc),
+            deadlines: Deadlines::new(alloc),
+            standing: 0,
             opening,
             given: 0,
             last: 0,
+            spare: 0,
         }
     }
 
@@ -58,8 +78,9 @@ impl LockTable {
         requires { self.now.last ≤ moment }
         ensures value { result ≡ holder self.now.locks moment feature }
         ensures one { HaveOneHolder self.now.locks }
+        ensures numbers { AreNumbered self.now.given self.now.locks }
     {
-        among::holder(self.locks.as_slice(), moment, &feature)
+        numbered::holder(self.locks.as_slice(), &self.holders, moment, &feature)
     }
 
     /// The first of these features that a lock holds at a moment.
@@ -67,7 +88,27 @@ impl LockTable {
         requires { self.now.last ≤ moment }
         ensures { result ≡ first_held self.now.locks moment features.now }
     {
-        among::first_held(self.locks.as_slice(), moment, features.items())
+        self.first_among(features.items(), moment)
+    }
+
+    fn first_among(&self, features: &[Rid], moment: u64) -> Option<Rid>
+        requires { self.now.last ≤ moment }
+        ensures { result ≡ first_held self.now.locks moment features.now }
+    {
+        for feature in features {
+            if self.holder(*feature, moment).is_some() {
+                return Some(*feature);
+            }
+        }
+        None
+    }
+
+    // Whether a number is that of a lock that is live at a moment.
+    fn is_live(&self, number: u64, moment: u64) -> bool
+        requires { self.now.last ≤ moment }
+        ensures { result ≡ is_live_number self.now.locks moment number }
+    {
+        numbered::is_live_number(self.locks.as_slice(), moment, number)
     }
 
     /// What an identifier stands for at a moment.
@@ -84,7 +125,7 @@ impl LockTable {
         if id.number == 0 || id.number > self.given {
             return LockStatus::NeverGiven;
         }
-        if among::is_live_number(self.locks.as_slice(), moment, id.number) {
+        if self.is_live(id.number, moment) {
             LockStatus::Live
         } else {
             LockStatus::Expired
@@ -96,11 +137,12 @@ impl LockTable {
         requires { IsTrue (is_live_number self.now.locks self.now.last number) }
         ensures { result.now ≡ features_of self.now.locks number }
     {
-        among::features_of(self.locks.as_slice(), number)
+        numbered::features_of(self.locks.as_slice(), number)
     }
 
     /// Makes room for a lock of so many features, where fewer than `limit` locks are live at the moment. No other call
-    /// takes memory. It ends no lock, and its moment does not count as given.
+    /// takes memory. It ends no lock, and its moment does not count as given. It gives back the memory of what has ended,
+    /// where that is much.
     ///
     /// # Errors
     ///
@@ -113,18 +155,69 @@ impl LockTable {
         ensures same { self.new ≡ record self.old { spare = self.new.spare } }
         ensures kept { self.old.spare ≤ self.new.spare }
     {
-        let live = among::live_count(self.locks.as_slice(), moment);
+        if self.is_stale() {
+            self.sweep();
+        }
+        if self.spare == 0 {
+            self.shrink();
+        }
+        let live = self.live_count(moment);
         if limit <= live {
             return Err(LockFault::Full(live));
         }
-        // A list of features comes with its own memory, so a lock needs room for itself alone.
-        let _ = features;
+        self.make_room(features)?;
+        Ok(())
+    }
+
+    fn sweep(&mut self)
+        ensures { self.new ≡ self.old }
+    {
+        swept::sweep(&mut self.holders, &mut self.locks, self.last);
+        self.standing = self.locks.as_slice().len() as u64;
+    }
+
+    // Gives back room that is not needed. None may have been promised.
+    fn shrink(&mut self)
+        requires { self.old.spare ≡ 0 }
+        ensures { self.new ≡ self.old }
+    {
+        self.holders.shrink();
+        swept::shrink(&mut self.locks);
+        self.deadlines.shrink(self.locks.len());
+    }
+
+    // Whether half of the locks that are kept have ended.
+    fn is_stale(&self) -> bool {
+        self.locks.len() as u64 / 2 >= self.standing
+    }
+
+    fn live_count(&self, moment: u64) -> u64
+        requires { self.now.last ≤ moment }
+        ensures { result ≡ length (live moment self.now.locks) }
+    {
+        if self.deadlines.is_due(moment) {
+            swept::live_count(self.locks.as_slice(), moment)
+        } else {
+            self.standing
+        }
+    }
+
+    fn make_room(&mut self, features: u64) -> Result<(), AllocError>
+        ensures room { OnOk result (features ≤ self.new.spare) }
+        ensures same { self.new ≡ record self.old { spare = self.new.spare } }
+        ensures kept { self.old.spare ≤ self.new.spare }
+    {
+        self.holders.reserve(features as usize)?;
         self.locks.reserve(1)?;
+        self.deadlines.reserve(self.locks.len() + 1)?;
+        if self.spare < features {
+            self.spare = features;
+        }
         Ok(())
     }
 
     /// Grants a lock on features for a period in seconds, and answers its number: one more than the locks granted so
-    /// far. The lock is live until the moment plus the period.
+    /// far. The lock is live until the moment plus the period. The room that was made is used up.
     pub fn grant(&mut self, features: List<Rid>, moment: u64, period: u32) -> u64
         requires moment { self.old.last ≤ moment }
         requires some { 0 < length features }
@@ -136,13 +229,30 @@ impl LockTable {
         ensures opening { self.new.opening ≡ self.old.opening }
         ensures given { self.new.given ≡ self.old.given + 1 }
         ensures last { self.new.last ≡ moment }
+        ensures spare { self.new.spare ≡ 0 }
+    {
+        self.add_lock(features, moment, period);
+        self.expire();
+        self.given
+    }
+
+    fn add_lock(&mut self, features: List<Rid>, moment: u64, period: u32)
+        requires moment { self.old.last ≤ moment }
+        requires some { 0 < length features }
+        requires free { All (λ feature. holder self.old.locks moment feature ≡ None) features }
+        requires room { length features ≤ self.old.spare }
+        requires numbers { self.old.given < 18_446_744_073_709_551_615 }
+        ensures { self.new ≡ record self.old { locks = granted moment self.old.given features period self.old.locks; given = self.old.given + 1; last = moment; spare = 0 } }
     {
         let number = self.given + 1;
+        self.holders.give(features.items(), number);
         let lock = KeptLock::new(number, features.into_items(), period, moment);
-        among::grant(&mut self.locks, lock, moment);
+        self.standing += lock.live_count(0);
+        numbered::push(&mut self.locks, lock);
+        noted::note(&mut self.deadlines, self.locks.as_slice(), number);
         self.given = number;
         self.last = moment;
-        number
+        self.spare = 0;
     }
 
     /// Gives a live lock a period in seconds, or leaves it its own where none is given. The period counts from the
@@ -154,8 +264,20 @@ impl LockTable {
         ensures opening { self.new.opening ≡ self.old.opening }
         ensures given { self.new.given ≡ self.old.given }
         ensures last { self.new.last ≡ moment }
+        ensures spare { self.new.spare ≡ self.old.spare }
     {
-        among::renew(&mut self.locks, number, moment, period);
+        self.renew_lock(number, moment, period);
+        self.expire();
+    }
+
+    fn renew_lock(&mut self, number: u64, moment: u64, period: Option<u32>)
+        requires moment { self.old.last ≤ moment }
+        requires live { IsTrue (is_live_number self.old.locks moment number) }
+        ensures { self.new ≡ record self.old { locks = renewed moment number period self.old.locks; last = moment } }
+    {
+        numbered::renew(&mut self.locks, number, moment, period);
+        noted::note(&mut self.deadlines, self.locks.as_slice(), number);
+        self.standing = numbered::left_standing(self.locks.as_slice(), number, self.standing);
         self.last = moment;
     }
 
@@ -168,8 +290,67 @@ impl LockTable {
         ensures opening { self.new.opening ≡ self.old.opening }
         ensures given { self.new.given ≡ self.old.given }
         ensures last { self.new.last ≡ moment }
+        ensures spare { self.new.spare ≡ self.old.spare }
     {
-        among::release(&mut self.locks, number, moment, touched.items(), how);
+        match how {
+            Release::Whole => self.release_whole(number, touched.items(), moment),
+            Release::Touched => self.release_touched(number, touched.items(), moment),
+        }
+        self.expire();
+    }
+
+    // `touched` has no say in what is released.
+    fn release_whole(&mut self, number: u64, touched: &[Rid], moment: u64)
+        requires moment { self.old.last ≤ moment }
+        requires live { IsTrue (is_live_number self.old.locks moment number) }
+        ensures { self.new ≡ record self.old { locks = released moment number touched.now Whole self.old.locks; last = moment } }
+    {
+        let _ = touched;
+        let features = numbered::features_of(self.locks.as_slice(), number);
+        self.holders.free(features, number);
+        numbered::end(&mut self.locks, number);
+        self.standing = numbered::left_standing(self.locks.as_slice(), number, self.standing);
         self.last = moment;
+    }
+
+    fn release_touched(&mut self, number: u64, touched: &[Rid], moment: u64)
+        requires moment { self.old.last ≤ moment }
+        requires live { IsTrue (is_live_number self.old.locks moment number) }
+        ensures { self.new ≡ record self.old { locks = released moment number touched.now Touched self.old.locks; last = moment } }
+    {
+        self.holders.free(touched, number);
+        numbered::leave(&mut self.locks, number, moment, &self.holders);
+        noted::note(&mut self.deadlines, self.locks.as_slice(), number);
+        self.standing = numbered::left_standing(self.locks.as_slice(), number, self.standing);
+        self.last = moment;
+    }
+
+    // Ends the locks whose deadline has come, and gives back the memory of what they held.
+    fn expire(&mut self)
+        ensures { self.new ≡ self.old }
+    {
+        for _ in 0..self.deadlines.len() {
+            if !self.deadlines.is_due(self.last) {
+                return;
+            }
+            self.expire_one();
+        }
+    }
+
+    // Looks at the lock of the soonest entry.
+    fn expire_one(&mut self)
+        ensures { self.new ≡ self.old }
+    {
+        let Some(number) = self.deadlines.pop() else {
+            return;
+        };
+        if numbered::is_live_number(self.locks.as_slice(), self.last, number) {
+            noted::note(&mut self.deadlines, self.locks.as_slice(), number);
+        } else if numbered::is_live_number(self.locks.as_slice(), 0, number) {
+            let features = numbered::features_of(self.locks.as_slice(), number);
+            self.holders.free(features, number);
+            numbered::end(&mut self.locks, number);
+            self.standing = numbered::left_standing(self.locks.as_slice(), number, self.standing);
+        }
     }
 }

@@ -230,5 +230,20 @@ fn room_is_refused_at_the_limit(rt: HostRuntime) -> Result<(), Fail> {
     assert_eq!(rt; table.reserve(1, 1099, 1), Err(LockFault::Full(1)));
     assert_eq!(rt; table.reserve(1, 1100, 1), Ok(()));
     assert_eq!(rt; table.holder(mark(1), 1099), Some(1));
+    // deadlines at 1300, 1500 and 1400, the second of which is renewed to 1210
+    let four = marks(rt.alloc(), &[4])?;
+    assert_eq!(rt; lock(&mut table, four, 1100, 200).ok(), Some(Some(2)));
+    let five = marks(rt.alloc(), &[5])?;
+    assert_eq!(rt; lock(&mut table, five, 1100, 400).ok(), Some(Some(3)));
+    let six = marks(rt.alloc(), &[6])?;
+    assert_eq!(rt; lock(&mut table, six, 1100, 300).ok(), Some(Some(4)));
+    assert_eq!(rt; renew(&mut table, 3, 1200, Some(10)), true);
+    assert_eq!(rt; table.reserve(1, 1209, 3), Err(LockFault::Full(3)));
+    assert_eq!(rt; table.reserve(1, 1210, 2), Err(LockFault::Full(2)));
+    assert_eq!(rt; table.reserve(1, 1400, 0), Err(LockFault::Full(0)));
+    assert_eq!(rt; renew(&mut table, 2, 1250, None), true);
+    assert_eq!(rt; table.holder(mark(5), 1250), None);
+    assert_eq!(rt; table.holder(mark(4), 1449), Some(2));
+    assert_eq!(rt; table.reserve(1, 1449, 1), Err(LockFault::Full(1)));
     Ok(())
 }

@@ -1,0 +1,148 @@
+-- The queue has an entry of each lock that has not been ended.
+use Rattle.std.proofs.Common.{◌≡◌, ℕ, ◌+◌, ◌<◌, ◌≤◌, Bool, true, false, cond, ◌&&◌, ◌||◌, List, [], ◌∷◌, ◌++◌, length, get_or, take, refl, sym, ap, subst, ◌∙◌, arith}
+use Rattle.std.specs.Prelude.{◌==◌, zero, suc, not, nat_lt, if◌then◌else◌}
+use Rattle.std.specs.List.{AllByRecursion, filter, list_any}
+use Rattle.std.specs.Ordering.{nat_cmp, ordering_then, is_lt}
+use Rattle.std.specs.declared.cmp.Ordering.{Ordering}
+use Rattle.std.specs.declared.cmp.Ordering.TheVariants.{Less, Equal, Greater}
+use Rattle.std.proofs.lemmas.Cmp.{ranked}
+use Rattle.lock_table.specs.Lock.{Lock}
+use Rattle.lock_table.specs.Held.{is_live, live, has_number, is_live_number, IsRising}
+use Rattle.lock_table.specs.Kept.{ended}
+use Rattle.lock_table.specs.Queue.{Due, due_at, due_cmp, is_entry_of, is_queued, AreQueued, AreQueuedBut}
+use Rattle.lock_table.specs.Steps.{changed_at}
+use Rattle.lock_table.proofs.Rising.{HasNot, above, not_yet, all_weaker, all_changed, all_more}
+use Rattle.lock_table.proofs.Seen.{later_ended}
+
+-- the soonest entry
+
+not_sooner_at : (a b : ℕ) (r o : Ordering) → r ≡ nat_cmp a b → is_lt (ordering_then r o) ≡ false → b ≤ a
+not_sooner_at a b Less o e h = absurd (let bad = h in cc)
+not_sooner_at a b Equal o e h = let same : a ≡ b = ranked a b Equal e in omega (arith, same)
+not_sooner_at a b Greater o e h = let more : b < a = ranked a b Greater e in omega (arith, more)
+
+pub due_behind : (moment : ℕ) (top : Due) (queue : List Due) → moment < top.0.0 → AllByRecursion (λ y. is_lt (due_cmp top y) ≡ false) queue → AllByRecursion (λ e. moment < e.0.0) queue
+due_behind moment top queue lt all =
+    all_weaker (λ y. is_lt (due_cmp top y) ≡ false) (λ e. moment < e.0.0) queue (λ y h. let le : top.0.0 ≤ y.0.0 = not_sooner_at y.0.0 top.0.0 (nat_cmp y.0.0 top.0.0) (nat_cmp y.0.1 top.0.1) refl h in omega (arith, lt, le)) all
+
+-- where no entry is due, each lock that has not been ended is live
+
+entry_live : (moment : ℕ) (e : Due) (l : Lock) → moment < e.0.0 → is_entry_of l e ≡ true → is_live moment l ≡ true
+entry_live moment e l lt is = grind (arith, lt, is)
+
+queued_live_at : (moment : ℕ) (e : Due) (l : Lock) (b rest : Bool) → is_entry_of l e ≡ b → moment < e.0.0 → (b || rest) ≡ true → (rest ≡ true → is_live moment l ≡ true) → is_live moment l ≡ true
+queued_live_at moment e l true rest is lt h later = entry_live moment e l lt is
+queued_live_at moment e l false rest is lt h later = later h
+
+queued_live : (moment : ℕ) (queue : List Due) (l : Lock) → AllByRecursion (λ e. moment < e.0.0) queue → is_queued queue l ≡ true → is_live moment l ≡ true
+queued_live moment [] l all q = absurd (let bad = q in cc)
+queued_live moment (e ∷ es) l all q = queued_live_at moment e l (is_entry_of l e) (is_queued es l) refl all.0 q (queued_live moment es l all.1)
+
+same_liveness_at : (moment : ℕ) (l : Lock) (b : Bool) → is_live 0 l ≡ b → (b ≡ true → is_live moment l ≡ true) → is_live moment l ≡ is_live 0 l
+same_liveness_at moment l true is h = h refl ∙ sym is
+same_liveness_at moment l false is h = later_ended 0 moment l (omega arith) is ∙ sym is
+
+same_filter : (p q : Lock → Bool) (locks : List Lock) → AllByRecursion (λ l. p l ≡ q l) locks → filter p locks ≡ filter q locks
+same_filter p q [] all = refl
+same_filter p q (l ∷ ls) all = rw (all.0, same_filter p q ls all.1) refl
+
+pub standing_live : (moment : ℕ) (queue : List Due) (locks : List Lock) → AllByRecursion (λ e. moment < e.0.0) queue → AreQueued queue locks → live 0 locks ≡ live moment locks
+standing_live moment queue locks behind queued =
+    sym (same_filter (is_live moment) (is_live 0) locks (all_weaker (λ l. is_live 0 l ≡ true → is_queued queue l ≡ true) (λ l. is_live moment l ≡ is_live 0 l) locks
+    (λ l h. same_liveness_at moment l (is_live 0 l) refl (λ stands. queued_live moment queue l behind (h stands))) queued))
+
+-- an entry comes, or goes
+
+or_here : (a b : Bool) → a ≡ true → (a || b) ≡ true
+or_here a b e = rw e refl
+
+or_there : (a b : Bool) → b ≡ true → (a || b) ≡ true
+or_there true b e = refl
+or_there false b e = e
+
+entry_is : (l : Lock) (deadline number : ℕ) → has_number number l ≡ true → l.deadline ≡ deadline → is_entry_of l (due_at deadline number) ≡ true
+entry_is l deadline number has is = grind (arith, has, is)
+
+entry_is_not : (l : Lock) (deadline number : ℕ) → has_number number l ≡ false → is_entry_of l (due_at deadline number) ≡ false
+entry_is_not l deadline number has = let not_it : (number == l.number) ≡ false = grind (arith, has) in rw not_it refl
+
+module _ (deadline number : ℕ) (old new : List Due) (entry : (p : Due → Bool) → list_any p new ≡ (p (due_at deadline number) || list_any p old)) where
+  pub more_queued : (l : Lock) → is_queued old l ≡ true → is_queued new l ≡ true
+  more_queued l q = entry (is_entry_of l) ∙ or_there (is_entry_of l (due_at deadline number)) (is_queued old l) q
+
+  pub new_queued : (l : Lock) → has_number number l ≡ true → l.deadline ≡ deadline → is_queued new l ≡ true
+  new_queued l has is = entry (is_entry_of l) ∙ or_here (is_entry_of l (due_at deadline number)) (is_queued old l) (entry_is l deadline number has is)
+
+  pushed_at : (l : Lock) (b : Bool) → has_number number l ≡ b → (has_number number l ≡ false → is_live 0 l ≡ true → is_queued old l ≡ true) → (has_number number l ≡ true → l.deadline ≡ deadline) → is_live 0 l ≡ true → is_queued new l ≡ true
+  pushed_at l true has but is stands = new_queued l has (is has)
+  pushed_at l false has but is stands = more_queued l (but has stands)
+
+  pub pushed : (locks : List Lock) → AllByRecursion (λ l. has_number number l ≡ true → l.deadline ≡ deadline) locks → AreQueuedBut number old locks → AreQueued new locks
+  pushed [] is but = tt
+  pushed (l ∷ ls) is but = (pushed_at l (has_number number l) refl but.0 is.0, pushed ls is.1 but.1)
+
+pub popped : (deadline number : ℕ) (old new : List Due) (locks : List Lock) → ((p : Due → Bool) → list_any p old ≡ (p (due_at deadline number) || list_any p new)) → AreQueued old locks → AreQueuedBut number new locks
+popped deadline number old new locks entry queued =
+    all_weaker (λ l. is_live 0 l ≡ true → is_queued old l ≡ true) (λ l. has_number number l ≡ false → is_live 0 l ≡ true → is_queued new l ≡ true) locks
+    (λ l h has stands. rw (entry (is_entry_of l), entry_is_not l deadline number has) at (h stands)) queued
+
+-- a lock changes, or comes
+
+pub queued_but : (number : ℕ) (queue : List Due) (locks : List Lock) → AreQueued queue locks → AreQueuedBut number queue locks
+queued_but number queue locks queued = all_weaker (λ l. is_live 0 l ≡ true → is_queued queue l ≡ true) (λ l. has_number number l ≡ false → is_live 0 l ≡ true → is_queued queue l ≡ true) locks (λ l h has. h) queued
+
+pub changed_but : (number : ℕ) (change : Lock → Lock) (queue : List Due) (locks : List Lock) → ((l : Lock) → (change l).number ≡ l.number) → AreQueuedBut number queue locks → AreQueuedBut number queue (changed_at number change locks)
+changed_but number change queue locks same but =
+    all_changed (λ l. has_number number l ≡ false → is_live 0 l ≡ true → is_queued queue l ≡ true) (λ l. has_number number l ≡ false → is_live 0 l ≡ true → is_queued queue l ≡ true) number change locks
+    (λ l e h not_it. absurd (let bad : has_number number (change l) ≡ true = ap (λ (n : ℕ). n == number) (same l) ∙ e in let worse = sym not_it ∙ bad in cc)) (λ l e h. h) but
+
+never_stands : (l : Lock) → is_live 0 (ended l) ≡ true → ⊥
+never_stands l e = grind (arith, e)
+
+pub ended_queued : (number : ℕ) (queue : List Due) (locks : List Lock) → AreQueuedBut number queue locks → AreQueued queue (changed_at number ended locks)
+ended_queued number queue locks but =
+    all_changed (λ l. has_number number l ≡ false → is_live 0 l ≡ true → is_queued queue l ≡ true) (λ l. is_live 0 l ≡ true → is_queued queue l ≡ true) number ended locks (λ l e h stands. absurd (never_stands l stands)) (λ l e h. h e) but
+
+itself : (n : ℕ) → (n == n) ≡ true
+itself n = grind arith
+
+pub new_but : (new : Lock) (queue : List Due) (locks : List Lock) → AreQueued queue locks → AreQueuedBut new.number queue (locks ++ new ∷ [])
+new_but new queue locks queued =
+    all_more (λ l. has_number new.number l ≡ false → is_live 0 l ≡ true → is_queued queue l ≡ true) locks new (queued_but new.number queue locks queued) (λ not_it. absurd (let bad = sym not_it ∙ itself new.number in cc))
+
+-- the deadline at a place is that of the lock with the number there
+
+same_deadline : (l : Lock) (ls : List Lock) (number : ℕ) → AllByRecursion (HasNot number) ls → AllByRecursion (λ m. has_number number m ≡ true → m.deadline ≡ l.deadline) ls
+same_deadline l ls number none = all_weaker (HasNot number) (λ m. has_number number m ≡ true → m.deadline ≡ l.deadline) ls (λ m has_not has. absurd (let bad = sym has_not ∙ has in cc)) none
+
+pub deadline_at : (number low : ℕ) (locks : List Lock) (i : ℕ) (d : Lock) → IsRising low locks → i < length locks → (get_or locks i d).number ≡ number → AllByRecursion (λ m. has_number number m ≡ true → m.deadline ≡ (get_or locks i d).deadline) locks
+deadline_at number low [] i d r lt e = absurd (omega (arith, lt))
+deadline_at number low (l ∷ ls) zero d r lt e = ((λ _. refl), same_deadline l ls number (above l.number ls r.1 number (omega (arith, e))))
+deadline_at number low (l ∷ ls) (suc i) d r lt e =
+    let no : has_number number l ≡ false = not_yet l ls i d number r.1 (omega (arith, lt)) e in
+    ((λ has. absurd (let bad = sym no ∙ has in cc)), deadline_at number l.number ls i d r.1 (omega (arith, lt)) e)
+
+pub none_noted : (number : ℕ) (queue : List Due) (locks : List Lock) → AllByRecursion (HasNot number) locks → AreQueuedBut number queue locks → AreQueued queue locks
+none_noted number queue [] none but = tt
+none_noted number queue (l ∷ ls) none but = (but.0 none.0, none_noted number queue ls none.1 but.1)
+
+-- one more of the locks gone through
+
+pub all_taken_more : {X : Type 0} (P : X → Type 0) (xs : List X) (i : ℕ) (d : X) → i < length xs → AllByRecursion P (take i xs) → P (get_or xs i d) → AllByRecursion P (take (i + 1) xs)
+all_taken_more P [] i d lt all here = absurd (omega (arith, lt))
+all_taken_more P (x ∷ xs) zero d lt all here = (here, tt)
+all_taken_more P (x ∷ xs) (suc i) d lt all here = let one : suc i + 1 ≡ suc (i + 1) = omega arith in rw one (all.0, all_taken_more P xs i d (omega (arith, lt)) all.1 here)
+
+-- a lock that has been ended needs no entry
+not_standing_at : (number : ℕ) (queue : List Due) (l : Lock) (rest b : Bool) → has_number number l ≡ b → ((has_number number l && is_live 0 l) || rest) ≡ false → (has_number number l ≡ false → is_live 0 l ≡ true → is_queued queue l ≡ true) → is_live 0 l ≡ true → is_queued queue l ≡ true
+not_standing_at number queue l rest true has none but stands = absurd (let bad = rw (has, stands) at none in cc)
+not_standing_at number queue l rest false has none but stands = but has stands
+
+or_right : (a b : Bool) → (a || b) ≡ false → b ≡ false
+or_right true b e = absurd (let bad = e in cc)
+or_right false b e = e
+
+pub not_standing : (number : ℕ) (queue : List Due) (locks : List Lock) → is_live_number locks 0 number ≡ false → AreQueuedBut number queue locks → AreQueued queue locks
+not_standing number queue [] none but = tt
+not_standing number queue (l ∷ ls) none but =
+    (not_standing_at number queue l (is_live_number ls 0 number) (has_number number l) refl none but.0, not_standing number queue ls (or_right (has_number number l && is_live 0 l) (is_live_number ls 0 number) none) but.1)

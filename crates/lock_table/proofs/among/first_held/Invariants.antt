@@ -1,6 +1,0 @@
-use Rattle.std.proofs.Common.{◌≡◌, drop}
-use Rattle.lock_table.specs.Held.{first_of, held_one}
-use Rattle.lock_table.proofs.among.first_held.Given as goal
-
-abbrev pub invariant-loop-feature : goal.invariant-loop-feature
-invariant-loop-feature l = first_of (held_one l.locks l.moment) (drop l.feature-index l.features) ≡ first_of (held_one l.locks l.moment) l.features

@@ -1,0 +1,14 @@
+use Rattle.std.proofs.Common.{◌≡◌, ℕ, rules, sym, subst}
+use Rattle.std.proofs.lemmas.Fn.{filter_same}
+use Rattle.lock_table.specs.Held.{is_live}
+use Rattle.lock_table.specs.Kept.{number_at, AreKept}
+use Rattle.lock_table.proofs.Keeping.{filter_kept}
+use Rattle.lock_table.proofs.swept.sweep.Goals as goal
+
+pub returns-clause-locks : goal.returns-clause-locks
+returns-clause-locks c = filter_same _ _ _ (λ x b f' k. search rules) _ _ c.retain.ensures.filtered
+
+pub returns-clause-kept : goal.returns-clause-kept
+returns-clause-kept c = λ given kept. rw (returns-clause-locks c)
+    (filter_kept c.args.last given (is_live c.args.last) (number_at c.free_ended.new.holders.numbers) c.args.locks.now.items
+    ((rw c.as_slice.ensures.value at (c.free_ended.ensures.kept given)) kept))

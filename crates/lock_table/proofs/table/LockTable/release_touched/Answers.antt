@@ -1,0 +1,50 @@
+use Rattle.std.proofs.Common.{◌≡◌, ℕ, ◌+◌, ◌≤◌, ◌∙◌, List, ap, sym, subst, true, arith, refl}
+use Rattle.std.specs.BinaryHeap.{heap_items}
+use Rattle.lock_table.specs.declared.words.Release.TheVariants.{Whole, Touched}
+use Rattle.lock_table.specs.Lock.{Lock, Locks}
+use Rattle.lock_table.specs.Held.{is_live_number, live}
+use Rattle.lock_table.specs.Steps.{released, renewed, renewed_lock}
+use Rattle.lock_table.specs.Kept.{number_at, AreKept, ended, left_by}
+use Rattle.lock_table.proofs.Changes.{rising_after, queued_after, queued_ended, some_stand, count_after}
+use Rattle.lock_table.proofs.Counted.{stands}
+use Rattle.lock_table.proofs.Granting.{change_seen, whole_ended, touched_left}
+use Rattle.lock_table.proofs.Keeping.{renewed_kept, ended_kept, left_kept}
+use Rattle.lock_table.proofs.Queued.{queued_but}
+use Rattle.lock_table.proofs.Seen.{number_seen}
+use Rattle.lock_table.proofs.table.LockTable.release_touched.Goals as goal
+
+pub leave-requires : goal.leave-requires
+leave-requires c = c.self.invariant.0.rising
+
+pub left_standing-self-inside-requires-clause-rising : goal.left_standing-self-inside-requires-clause-rising
+left_standing-self-inside-requires-clause-rising c = rising_after c.args.number (left_by c.args.moment (number_at c.free.new.self.numbers)) (λ l. refl) c.self.inside.locks.items c.self.invariant.0.rising c.as_slice-2.result.now (c.as_slice-2.ensures.value ∙ c.leave.ensures.items)
+
+pub left_standing-self-inside-requires-clause-some : goal.left_standing-self-inside-requires-clause-some
+left_standing-self-inside-requires-clause-some c =
+    let t = c.self.inside in
+    let le = subst (λ (s : Locks). s.last ≤ c.args.moment) (sym c.self.view_is) c.requires.moment in
+    let there = sym (number_seen t.last c.args.moment c.args.number t.locks.items le) ∙ subst (λ (s : Locks). is_live_number s.locks c.args.moment c.args.number ≡ true) (sym c.self.view_is) c.requires.live in
+    some_stand c.args.number (left_by c.args.moment (number_at c.free.new.self.numbers)) (λ l. refl) t.locks.items c.self.invariant.0.rising t.standing c.as_slice-2.result.now (c.as_slice-2.ensures.value ∙ c.leave.ensures.items) c.self.invariant.3 (stands c.args.moment c.args.number t.locks.items there)
+
+pub invariant_of-self : goal.invariant_of-self
+invariant_of-self c =
+    let t = c.self.inside in
+    let le = subst (λ (s : Locks). s.last ≤ c.args.moment) (sym c.self.view_is) c.requires.moment in
+    let there = sym (number_seen t.last c.args.moment c.args.number t.locks.items le) ∙ subst (λ (s : Locks). is_live_number s.locks c.args.moment c.args.number ≡ true) (sym c.self.view_is) c.requires.live in (
+      subst (AreKept c.args.moment t.given (number_at c.free.new.self.numbers)) (sym c.leave.ensures.items) (left_kept t.last c.args.moment t.given c.args.number c.args.touched.now (number_at c.self.inside.holders.numbers) (number_at c.free.new.self.numbers) t.locks.items le c.free.ensures.freed c.self.invariant.0 there),
+      record { for_features = omega (arith, c.self.invariant.1.for_features, c.free.ensures.room); for_lock = λ some. omega (arith, c.self.invariant.1.for_lock some, c.leave.ensures.len, c.leave.ensures.capacity); for_entry = λ some. omega (arith, c.self.invariant.1.for_entry some, c.leave.ensures.len, c.note.ensures.capacity); for_entries = omega (arith, c.self.invariant.1.for_entries, c.leave.ensures.len, c.note.ensures.capacity) },
+      queued_after c.args.number (left_by c.args.moment (number_at c.free.new.self.numbers)) (λ l. refl) t.locks.items c.self.invariant.0.rising (heap_items t.deadlines.queue) (heap_items c.note.new.deadlines.queue) c.as_slice.result.now c.leave.new.locks.items (c.as_slice.ensures.value ∙ c.leave.ensures.items) c.leave.ensures.items c.note.ensures.queued c.self.invariant.2,
+      count_after c.args.number (left_by c.args.moment (number_at c.free.new.self.numbers)) (λ l. refl) t.locks.items c.self.invariant.0.rising t.standing c.left_standing-self-inside.result c.as_slice-2.result.now c.leave.new.locks.items (c.as_slice-2.ensures.value ∙ c.leave.ensures.items) c.leave.ensures.items c.self.invariant.3 (stands c.args.moment c.args.number t.locks.items there) c.left_standing-self-inside.ensures,
+    )
+
+pub returns : goal.returns
+returns c =
+    let t = c.self.inside in
+    let le = subst (λ (s : Locks). s.last ≤ c.args.moment) (sym c.self.view_is) c.requires.moment in
+    let there = sym (number_seen t.last c.args.moment c.args.number t.locks.items le) ∙ subst (λ (s : Locks). is_live_number s.locks c.args.moment c.args.number ≡ true) (sym c.self.view_is) c.requires.live in
+    let items = ap (live c.args.moment) c.leave.ensures.items ∙ sym (touched_left t.last c.args.moment t.given c.args.number c.args.touched.now (number_at c.self.inside.holders.numbers) (number_at c.free.new.self.numbers) t.locks.items le c.free.ensures.freed c.self.invariant.0 there) in
+    ap (λ (ls : List Lock). record { locks = ls; opening = t.opening; given = t.given; last = c.args.moment; spare = t.spare }) items
+    ∙ ap (λ (s : Locks). record s { locks = released c.args.moment c.args.number c.args.touched.now Touched s.locks; last = c.args.moment }) c.self.view_is
+
+pub note-requires-clause-rising : goal.note-requires-clause-rising
+note-requires-clause-rising c = rising_after c.args.number (left_by c.args.moment (number_at c.free.new.self.numbers)) (λ l. refl) c.self.inside.locks.items c.self.invariant.0.rising c.as_slice.result.now (c.as_slice.ensures.value ∙ c.leave.ensures.items)

@@ -1,0 +1,25 @@
+use Rattle.std.proofs.Common.{◌≡◌, ◌∙◌, List, length, ap, sym, subst, arith, true}
+use Rattle.std.specs.BinaryHeap.{heap_items}
+use Rattle.lock_table.specs.Lock.{Lock}
+use Rattle.lock_table.specs.Held.{is_live, live}
+use Rattle.lock_table.specs.Queue.{is_queued, AreQueued}
+use Rattle.lock_table.proofs.Counted.{kept_live}
+use Rattle.lock_table.proofs.Rising.{all_filter}
+use Rattle.lock_table.proofs.Seen.{live_seen}
+use Rattle.lock_table.proofs.table.LockTable.sweep.Goals as goal
+
+pub invariant_of-self : goal.invariant_of-self
+invariant_of-self c =
+    let t = c.self.inside in
+    let same : live 0 c.sweep.new.locks.items ≡ c.sweep.new.locks.items = rw c.sweep.ensures.locks (kept_live t.last t.locks.items) in
+    let count = ap (λ (ls : List Lock). length ls) c.as_slice.ensures.value in (
+      c.sweep.ensures.kept t.given c.self.invariant.0,
+      record { for_features = omega (arith, c.self.invariant.1.for_features, c.sweep.ensures.room); for_lock = λ some. omega (arith, c.self.invariant.1.for_lock some, c.sweep.ensures.len, c.sweep.ensures.capacity); for_entry = λ some. omega (arith, c.self.invariant.1.for_entry some, c.sweep.ensures.len); for_entries = omega (arith, c.self.invariant.1.for_entries, c.sweep.ensures.len) },
+      subst (AreQueued (heap_items t.deadlines.queue)) (sym c.sweep.ensures.locks) (all_filter (λ l. is_live 0 l ≡ true → is_queued (heap_items t.deadlines.queue) l ≡ true) (is_live t.last) t.locks.items c.self.invariant.2),
+      (count ∙ ap (λ (ls : List Lock). length ls) (sym same)),
+    )
+
+pub returns : goal.returns
+returns c =
+    let t = c.self.inside in
+    ap (λ (ls : List Lock). record { locks = ls; opening = t.opening; given = t.given; last = t.last; spare = t.spare }) (ap (live t.last) c.sweep.ensures.locks ∙ live_seen t.last t.last t.locks.items (omega arith)) ∙ c.self.view_is
