@@ -1,9 +1,9 @@
 //! Each public call once, with ample memory, and the real ends against real files.
 
 use crate::{
-    Boxed, Clock, InputFile, Joined, List, ListClock, MemLink, MemSink, MemSource, ReadEnd,
-    RealClock, Sink, Source, StandardInput, StandardOutput, Text, WriteEnd, WriteFault, put_all,
-    put_on,
+    Boxed, Buffer, Buffered, Clock, InputFile, Joined, List, ListClock, MemLink, MemSink,
+    MemSource, ReadEnd, RealClock, Sink, Source, StandardInput, StandardOutput, Text, WriteEnd,
+    WriteFault, put_all, put_on,
 };
 use std::fs;
 use std::test::Fail;
@@ -49,6 +49,33 @@ fn a_joined_link_moves_the_bytes_of_its_halves(rt: HostRuntime) -> Result<(), Fa
     assert_eq!(rt; link.take(&mut into), Ok(1));
     assert_eq!(rt; put_all(&mut link, b"mno"), Ok(()));
     assert_eq!(rt; link.written(), b"mno".as_slice());
+    Ok(())
+}
+
+#[test]
+fn a_buffer_makes_one_put_of_many_and_passes_a_long_piece_on(rt: HostRuntime) -> Result<(), Fail> {
+    let alloc = rt.alloc();
+    let mut buffer = Buffer::new(alloc)?;
+    let mut sink = MemSink::new(alloc, 70_010, vec![in alloc; 2]?)?;
+    let mut buffered = Buffered {
+        sink: &mut sink,
+        buffer: &mut buffer,
+    };
+    assert_eq!(rt; put_all(&mut buffered, b"head "), Ok(()));
+    let given = put_all(&mut buffered, b"body");
+    assert_eq!(rt; buffer.finish(&mut sink, given), Ok(()));
+    assert_eq!(rt; sink.bytes(), b"head body".as_slice());
+    let long = vec![in alloc; b'x'; 70_000]?;
+    let mut buffered = Buffered {
+        sink: &mut sink,
+        buffer: &mut buffer,
+    };
+    assert_eq!(rt; put_all(&mut buffered, &long), Ok(()));
+    let given = put_all(&mut buffered, b"y");
+    assert_eq!(rt; sink.bytes().len(), 70_009);
+    assert_eq!(rt; buffer.finish(&mut sink, given), Err(WriteFault));
+    buffer.clear();
+    assert_eq!(rt; buffer.finish(&mut sink, Ok(())), Ok(()));
     Ok(())
 }
 
