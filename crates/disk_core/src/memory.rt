@@ -1,6 +1,6 @@
 ghost use Rattle.std.specs.Prelude.{◌≡◌, ◌≤◌, ◌<◌, ◌+◌, ◌⊎◌, ◌↔◌, ◌++◌, ◌∷◌, ◌-◌, if◌then◌else◌, [], length, min, take, drop, IfOk, OnOk, OnErr, IsErr, IsTrue, Contains, vec_capacity};
 ghost use Rattle.wfs_ends.specs.Ends.{Rose};
-ghost use Rattle.disk_core.specs.Disk.{over, framed};
+ghost use Rattle.disk_core.specs.Disk.{over, joined};
 ghost use Rattle.disk_core.specs.Story.{read_after_all};
 ghost use Rattle.disk_core.specs.Story.Step.{shortened, synced};
 ghost use Rattle.disk_core.specs.Memory.{counted, Stopped, Fails, passed, refused, noted, noted_write, reads_as};
@@ -80,8 +80,8 @@ pub(crate) fn put_over(bytes: &mut Vec<u8>, at: usize, new: &[u8])
 // The same with a body between a head and a tail.
 fn put_framed(bytes: &mut Vec<u8>, at: usize, head: &[u8], body: &[u8], tail: &[u8])
     requires within { at ≤ length bytes.old.items }
-    requires room { length bytes.old.items + length (framed head.now body.now tail.now) ≤ vec_capacity bytes.old }
-    ensures put { bytes.new.items ≡ over at (framed head.now body.now tail.now) bytes.old.items }
+    requires room { length bytes.old.items + length (joined head.now body.now tail.now) ≤ vec_capacity bytes.old }
+    ensures put { bytes.new.items ≡ over at (joined head.now body.now tail.now) bytes.old.items }
     ensures room { vec_capacity bytes.old ≤ vec_capacity bytes.new }
 {
     put_over(bytes, at, head);
@@ -123,9 +123,9 @@ fn log_write(
     tail: &[u8],
 )
     requires log { length log.old.items < vec_capacity log.old }
-    requires text { length text.old.items + length (framed head.now body.now tail.now) ≤ vec_capacity text.old }
-    ensures pushed { log.new.items ≡ log.old.items ++ Call.Write at (length text.old.items) (length (framed head.now body.now tail.now)) ∷ [] }
-    ensures text { text.new.items ≡ text.old.items ++ framed head.now body.now tail.now }
+    requires text { length text.old.items + length (joined head.now body.now tail.now) ≤ vec_capacity text.old }
+    ensures pushed { log.new.items ≡ log.old.items ++ Call.Write at (length text.old.items) (length (joined head.now body.now tail.now)) ∷ [] }
+    ensures text { text.new.items ≡ text.old.items ++ joined head.now body.now tail.now }
     ensures room { (vec_capacity log.old ≤ vec_capacity log.new) × (vec_capacity text.old ≤ vec_capacity text.new) }
 {
     let from = text.len();
@@ -248,11 +248,11 @@ impl MemDisk {
         tail: &[u8],
     ) -> Result<(), Failed>
         requires { at ≤ length (reads_as self.old) }
-        ensures fails { IsErr result ↔ (Fails self.old ⊎ (self.old.room < length (framed head.now body.now tail.now))) }
+        ensures fails { IsErr result ↔ (Fails self.old ⊎ (self.old.room < length (joined head.now body.now tail.now))) }
         ensures failed { OnErr result (self.new ≡ refused self.old) }
         ensures count { self.old.failed ≤ self.new.failed }
         ensures cause { OnErr result (Rose self.old.failed self.new.failed) }
-        ensures done { OnOk result (self.new ≡ noted_write at (framed head.now body.now tail.now) self.old) }
+        ensures done { OnOk result (self.new ≡ noted_write at (joined head.now body.now tail.now) self.old) }
     {
         if fails(
             &mut self.made,
