@@ -101,31 +101,43 @@ fn run_lengths<D: Disk + Drop>(
     }
 }
 
-// Side a holds `hi`, and then the tail `x` behind a gate that is neither open nor closed.
-fn tailed_disk(alloc: Global) -> Mem<MemDisk>
+// Makes a fresh journal: whether that was done, and the disks.
+fn run_fresh<D: Disk + Drop>(disks: Pair<D>) -> (bool, Pair<D>)
+    requires { Unused (D.images disks.a) × Unused (D.images disks.b) }
+{
+    match Journal::fresh(disks, 100) {
+        Ok(journal) => (true, journal.into_disks()),
+        Err((disks, _)) => (false, disks),
+    }
+}
+
+// Side a holds `hi`, and then the tail `x` behind a gate that is neither open nor closed. The calls that are listed fail.
+fn tailed_disk(alloc: Global, listed: &[u64]) -> Mem<MemDisk>
     ensures { IfOk result (λ m. Every (⟦<MemDisk as Disk>⟧.images m) (TailOf (record { lists = ((104 ∷ 105 ∷ []) ∷ []) ∷ []; generation = 1; bodies = (104 ∷ 105 ∷ []) ∷ []; body = 120 ∷ []; text = [] }))) }
 {
     let mut bytes = Vec::new(alloc);
     bytes.extend_from_slice(b"\x01WFSJNL\x01\0\0\0\0\0\0\0\x01\x01\0\0\0\x02hi\x05\0\0\0\x01x\0")?;
-    MemDisk::new(alloc, bytes, 60, 200, Vec::new(alloc), None)
+    let mut failing = Vec::new(alloc);
+    failing.extend_from_slice(listed)?;
+    MemDisk::new(alloc, bytes, 60, 200, failing, None)
 }
 
-// Ends the tail, and takes the journal over: its length and generation, whether something is begun, and the disks.
-fn run_settle<D: Disk + Drop>(disks: Pair<D>) -> Result<(u64, u64, bool, Pair<D>), Failed>
+// Ends the tail, and takes the journal over: its length and generation and whether something is begun, and the disks.
+fn run_settle<D: Disk + Drop>(disks: Pair<D>) -> (Option<(u64, u64, bool)>, Pair<D>)
     requires tailed { Every (D.images disks.a) (TailOf (record { lists = ((104 ∷ 105 ∷ []) ∷ []) ∷ []; generation = 1; bodies = (104 ∷ 105 ∷ []) ∷ []; body = 120 ∷ []; text = [] })) }
     requires few { Every (D.images disks.b) (λ c. length c < 17) }
 {
     let mut disks = disks;
     match settle(&mut disks, false, 23, false, false) {
-        Err(_) => Err(Failed),
+        Err(_) => (None, disks),
         Ok(()) => {
             let journal = Journal::adopt(disks, false, 1, 23, 100);
-            Ok((
+            let seen = (
                 journal.side_length(),
                 journal.generation(),
                 journal.is_begun(),
-                journal.into_disks(),
-            ))
+            );
+            (Some(seen), journal.into_disks())
         }
     }
 }
@@ -264,14 +276,61 @@ fn a_side_is_as_long_as_its_records(rt: HostRuntime) -> Result<(), Fail> {
     Ok(())
 }
 
+// A read, byte 0 and a sync; the cut, the rest and a sync; byte 0 and a sync.
 #[test]
-fn a_tail_is_closed_and_the_list_stays(rt: HostRuntime) -> Result<(), Fail> {
-    let mut want = FIRST;
-    want[16] = 1;
-    let alloc = rt.alloc();
-    let (a, b) = (tailed_disk(alloc)?, empty_disk(alloc, &[], None)?);
-    let (length, generation, is_begun, disks) = run_settle(Pair { a, b })?;
-    assert_eq!(rt; (length, generation, is_begun), (24, 1, false));
-    assert!(rt; leaves(disks.a, 0, &want, 24));
+fn each_call_of_fresh_may_fail(rt: HostRuntime) -> Result<(), Fail> {
+    for (call, is_made, keep, length, first) in [
+        (0, false, 9, 0, 0),
+        (1, false, 9, 0, 0),
+        (2, false, 0, 0, 0),
+        (2, false, 9, 1, 0),
+        (3, false, 9, 1, 0),
+        (4, false, 9, 1, 0),
+        (5, false, 1, 1, 0),
+        (5, false, 2, 17, 0),
+        (6, false, 9, 17, 0),
+        (7, false, 0, 17, 0),
+        (7, false, 1, 17, 1),
+        (8, true, 0, 17, 1),
+    ] {
+        let mut want = FIRST;
+        want[0] = first;
+        let alloc = rt.alloc();
+        let (a, b) = (
+            empty_disk(alloc, &[call], None)?,
+            empty_disk(alloc, &[], None)?,
+        );
+        let (done, disks) = run_fresh(Pair { a, b });
+        assert_eq!(rt; done, is_made, "at {call}");
+        assert!(rt; leaves(disks.a, keep, &want, length), "at {call}");
+        let (a, b) = (
+            empty_disk(alloc, &[], Some(call))?,
+            empty_disk(alloc, &[], None)?,
+        );
+        let (done, disks) = run_fresh(Pair { a, b });
+        assert_eq!(rt; done, is_made, "stopped at {call}");
+        assert!(rt; leaves(disks.a, keep, &want, length), "stopped at {call}");
+    }
+    Ok(())
+}
+
+// The ending gate is written, and synced. A row has also the gate that is left.
+#[test]
+fn each_call_of_settle_may_fail(rt: HostRuntime) -> Result<(), Fail> {
+    for (call, seen, keep, gate) in [
+        (0, None, 9, 5),
+        (1, None, 0, 5),
+        (1, None, 1, 0),
+        (2, Some((24, 1, false)), 0, 0),
+    ] {
+        let mut want = FIRST;
+        want[16] = 1;
+        want[23] = gate;
+        let alloc = rt.alloc();
+        let (a, b) = (tailed_disk(alloc, &[call])?, empty_disk(alloc, &[], None)?);
+        let (answer, disks) = run_settle(Pair { a, b });
+        assert_eq!(rt; answer, seen, "at {call}");
+        assert!(rt; leaves(disks.a, keep, &want, 24), "at {call}");
+    }
     Ok(())
 }

@@ -21,4 +21,4 @@ all_tailed (Ok m) v is still e = subst (λ (m : Memory). Every (image_of m) (Tai
 all_tailed (Err e) v is still none = tt
 
 pub returns : goal.returns
-returns c = all_tailed c.new-2.result _ (search rules) refl c.new-2.ensures
+returns c = all_tailed c.new.result _ (search rules) refl c.new.ensures
