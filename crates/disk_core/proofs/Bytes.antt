@@ -1,6 +1,6 @@
 -- What a write makes of a list of bytes.
 use Rattle.std.proofs.Common.{◌≡◌, ⊎_elim, ℕ, ◌+◌, ◌≤◌, suc, List, [], ◌∷◌, ◌++◌, length, get_or, take, drop, refl, sym, ◌∙◌, ap, subst, arith, append_assoc, length-append, take-append-drop}
-use Rattle.std.proofs.lemmas.List.{take_at, drop_more, take-take}
+use Rattle.std.proofs.lemmas.List.{take_at, drop_more, drop-drop, length-take-le, take-take}
 use Rattle.std.proofs.Math.Seq.{drop-append-add}
 use Rattle.disk_core.specs.Disk.{over, Torn, Begins, Keeps}
 
@@ -14,6 +14,17 @@ over_behind front bytes rest at is =
     let before : take at (front ++ rest) ≡ front = take_at front rest at is in
     let behind : drop (at + length bytes) (front ++ rest) ≡ drop (length bytes) rest = drop_past front rest (at + length bytes) (length bytes) (omega arith) in
     rw (before, behind) refl
+
+-- a write right behind a write
+pub over_over : (at : ℕ) (head more s : List ℕ) → at ≤ length s → over (at + length head) more (over at head s) ≡ over at (head ++ more) s
+unfolding over
+over_over at head more s le =
+    let cut : length (take at s) ≡ at = length-take-le at s le in
+    let front : length (take at s ++ head) ≡ at + length head = omega (arith, length-append (take at s) head, cut) in
+    let split : take at s ++ head ++ drop (at + length head) s ≡ (take at s ++ head) ++ drop (at + length head) s = refl in
+    over_behind (take at s ++ head) more (drop (at + length head) s) (at + length head) front
+    ∙ ap (λ (l : List ℕ). ((take at s ++ head) ++ more) ++ l) (drop-drop (length more) (at + length head) s ∙ ap (λ n. drop n s) (omega (arith, length-append head more)))
+    ∙ ap (λ (l : List ℕ). l ++ drop (at + length (head ++ more)) s) (append_assoc (take at s) head more)
 
 -- of a range behind a front, whatever was torn
 pub torn_behind : (at n : ℕ) (front rest c : List ℕ) → length front ≤ at → Torn at n (front ++ rest) c → c ≡ front ++ drop (length front) c

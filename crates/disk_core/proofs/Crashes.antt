@@ -5,7 +5,8 @@ use Rattle.std.proofs.lemmas.List.{drop-drop, drop_all}
 use Rattle.std.specs.List.{AllByRecursion}
 use Rattle.disk_core.specs.Story.{Step, read_after, read_after_all, Left, LeftAll, Image}
 use Rattle.disk_core.specs.Story.Step.{wrote, shortened, synced}
-use Rattle.disk_core.specs.StoryLaws.{torn_none, reads_left, le_cases}
+use Rattle.disk_core.specs.StoryLaws.{torn_none, reads_left}
+use Rattle.disk_core.proofs.Pushes.{le_cases}
 use Rattle.disk_core.specs.Memory.{unsynced_from, IsChange, kept}
 
 unsynced_within : (n : ℕ) (steps : List Step) → unsynced_from n steps ≤ n + length steps
@@ -38,13 +39,13 @@ all_drop (suc k) [] all = tt
 all_drop (suc k) (x ∷ steps) all = all_drop k steps all.1
 
 -- steps behind steps
-left_append : (images : List ℕ → Type 0) (s : List ℕ) (steps more : List Step) (c : List ℕ) → LeftAll images s (steps ++ more) c ≡ LeftAll (LeftAll images s steps) (read_after_all s steps) more c
+pub left_append : (images : List ℕ → Type 0) (s : List ℕ) (steps more : List Step) (c : List ℕ) → LeftAll images s (steps ++ more) c ≡ LeftAll (LeftAll images s steps) (read_after_all s steps) more c
 unfolding LeftAll read_after_all
 left_append images s [] more c = refl
 left_append images s (x ∷ steps) more c = left_append (Left images s x) (read_after s x) steps more c
 
 -- writes and cuts may all be lost
-lost : (images : List ℕ → Type 0) (s : List ℕ) (steps : List Step) (c : List ℕ) → AllByRecursion IsChange steps → images c → LeftAll images s steps c
+pub lost : (images : List ℕ → Type 0) (s : List ℕ) (steps : List Step) (c : List ℕ) → AllByRecursion IsChange steps → images c → LeftAll images s steps c
 unfolding LeftAll
 lost images s [] c all here = here
 lost images s (wrote at bytes ∷ steps) c all here = lost (Left images s (wrote at bytes)) (read_after s (wrote at bytes)) steps c all.1 (c, here, torn_none at (length bytes) c)

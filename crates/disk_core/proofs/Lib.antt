@@ -1,3 +1,4 @@
+pub mod Pushes
 pub mod Runs
 pub mod Bytes
 pub mod Seen
@@ -6,3 +7,4 @@ pub mod Notes
 pub mod Remembered
 pub mod Replays
 pub mod Crashes
+pub mod Outside

@@ -1,12 +1,13 @@
 -- A call more in the notes of a disk in memory.
 use Rattle.std.proofs.Common.{◌≡◌, ℕ, ◌+◌, ◌≤◌, List, [], ◌∷◌, ◌++◌, length, take, drop, refl, sym, ◌∙◌, ap, subst, arith, length-append, Some, nat_lt, Bool, true, false}
 use Rattle.std.proofs.lemmas.Bool.Decides.{nat_tests}
-use Rattle.std.proofs.lemmas.List.{take_all, drop-append-le, take-append-le, length-drop, length-take, drop_at}
+use Rattle.std.proofs.lemmas.List.{take_all, drop-append-le, take-append-le, length-drop, length-take, length-take-le, drop_at}
 use Rattle.std.specs.List.{AllByRecursion}
 use Rattle.disk_core.specs.Disk.{over, written, cut_to, Torn}
 use Rattle.disk_core.specs.Story.{Step, read_after, read_after_all}
 use Rattle.disk_core.specs.Story.Step.{wrote, shortened, synced}
-use Rattle.disk_core.specs.StoryLaws.{read_push, torn_all}
+use Rattle.disk_core.specs.StoryLaws.{torn_all}
+use Rattle.disk_core.proofs.Pushes.{read_push}
 use Rattle.disk_core.specs.Memory.{step_of, steps_of, IsWithin, size_of, written_size}
 use Rattle.disk_core.specs.declared.call.Call.{Call}
 use Rattle.disk_core.specs.declared.call.Call.TheVariants as calls
@@ -79,6 +80,11 @@ pub length_over : (at : ℕ) (bytes s : List ℕ) → at ≤ length s → length
 unfolding over
 length_over at bytes s le =
     omega (arith, length-append (take at s ++ bytes) (drop (at + length bytes) s), length-append (take at s) bytes, length-take at s, length-drop (at + length bytes) s)
+
+-- it reaches behind what was written
+pub length_over_more : (at : ℕ) (bytes s : List ℕ) → at ≤ length s → at + length bytes ≤ length (over at bytes s)
+unfolding over
+length_over_more at bytes s le = omega (arith, length-append (take at s ++ bytes) (drop (at + length bytes) s), length-append (take at s) bytes, length-take-le at s le)
 
 -- a step of a call, or more steps, makes the file longer by no more than was written
 length_wrote : (at : ℕ) (part s : List ℕ) (b : Bool) → nat_lt (length s) at ≡ b → length (read_after s (wrote at part)) ≤ length s + length part

@@ -3,7 +3,8 @@ use Rattle.std.proofs.Common.{◌≡◌, inl, inr, ℕ, ◌≤◌, List, [], ◌
 use Rattle.disk_core.specs.Disk.{written, cut_to, Torn, Cut, Same, Comes, Leads}
 use Rattle.disk_core.specs.Story.{Step, Left, Image, ImageSince}
 use Rattle.disk_core.specs.Story.Step.{wrote, shortened, synced}
-use Rattle.disk_core.specs.StoryLaws.{leads_push, now_push, image_reads, torn_none, since_only}
+use Rattle.disk_core.specs.StoryLaws.{image_reads, torn_none, since_only}
+use Rattle.disk_core.proofs.Pushes.{leads_push, now_push}
 use Rattle.disk_core.specs.Memory.{Memory, reads_as, image_of, image_since, steps_done, passed, refused, noted, noted_write}
 use Rattle.disk_core.proofs.Notes.{read_sync, shown_cut, shown_write, torn_write, read_cut}
 

@@ -4,7 +4,7 @@ use Rattle.std.proofs.lemmas.List.{drop_more, take_all, take-map, length-map}
 use Rattle.std.specs.List.{AllByRecursion}
 use Rattle.wfs_ends.specs.Ends.{last_count}
 use Rattle.disk_core.specs.Story.{read_after_all}
-use Rattle.disk_core.specs.StoryLaws.{le_cases}
+use Rattle.disk_core.proofs.Pushes.{le_cases}
 use Rattle.disk_core.specs.Memory.{step_of, steps_of, written_size, size_of, IsWithin, unsynced_from, kept}
 use Rattle.disk_core.specs.declared.call.Call.{Call}
 

@@ -1,5 +1,5 @@
 -- A disk in memory.
-use Rattle.std.specs.Prelude.{◌≡◌, ◌⊎◌, ◌+◌, ◌-◌, ◌≤◌, min, ℕ, List, [], ◌∷◌, ◌++◌, length, take, drop, map, Option, Some, None, Contains, Vec, vec_capacity}
+use Rattle.std.specs.Prelude.{◌≡◌, ◌⊎◌, ◌+◌, ◌-◌, ◌<◌, ◌≤◌, min, ℕ, List, [], ◌∷◌, ◌++◌, length, take, drop, map, Option, Some, None, Contains, Vec, vec_capacity}
 use Rattle.std.specs.List.{AllByRecursion}
 use Rattle.std.specs.declared.alloc.Global.{Global}
 use Rattle.wfs_ends.specs.Ends.{last_count}
@@ -76,6 +76,12 @@ abbrev pub IsChange : Step → Type 0
 IsChange (wrote at bytes) = Unit {0}
 IsChange (shortened to) = Unit {0}
 IsChange synced = ⊥
+
+-- this place is in no range that was written, and below each length that the file was cut to
+abbrev pub IsUntouched : ℕ → Step → Type 0
+IsUntouched k (wrote at bytes) = (k < at) ⊎ (at + length bytes ≤ k)
+IsUntouched k (shortened to) = k < to
+IsUntouched k synced = Unit {0}
 
 -- the steps up to the last sync, and the first few writes and cuts after it
 abbrev pub kept : ℕ → List Step → List Step

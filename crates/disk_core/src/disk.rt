@@ -1,6 +1,6 @@
 ghost use Rattle.std.specs.Prelude.{◌≡◌, ◌≤◌, ◌-◌, ℕ, List, Option, length, take, drop, min, Some, None, IfOk, OnOk, IfSome, OnErr};
 ghost use Rattle.wfs_ends.specs.Ends.{Rose};
-ghost use Rattle.disk_core.specs.Disk.{written, cut_to, Same, Torn, Cut, ReadsBy, Leads};
+ghost use Rattle.disk_core.specs.Disk.{written, joined, cut_to, Same, Torn, Cut, ReadsBy, Leads};
 
 use wfs_ends::Failed;
 
@@ -46,6 +46,15 @@ pub trait Disk {
         ensures done { OnOk result (shown self.new ≡ written at bytes.now (shown self.old)) }
         ensures torn { ReadsBy (Torn at (length bytes.now)) (shown self.old) (shown self.new) }
         ensures crash { Leads moment since images (Torn at (length bytes.now)) self.old self.new }
+        ensures count { faults self.old ≤ faults self.new }
+        ensures cause { OnErr result (Rose (faults self.old) (faults self.new)) };
+
+    /// Writes a body between a head and a tail as one write, with no copy of it.
+    fn write_framed(&mut self, at: u64, head: &[u8], body: &[u8], tail: &[u8]) -> Result<(), Failed>
+        requires { IfSome (shown self.old) (λ s. at ≤ length s) }
+        ensures done { OnOk result (shown self.new ≡ written at (joined head.now body.now tail.now) (shown self.old)) }
+        ensures torn { ReadsBy (Torn at (length (joined head.now body.now tail.now))) (shown self.old) (shown self.new) }
+        ensures crash { Leads moment since images (Torn at (length (joined head.now body.now tail.now))) self.old self.new }
         ensures count { faults self.old ≤ faults self.new }
         ensures cause { OnErr result (Rose (faults self.old) (faults self.new)) };
 

@@ -4,7 +4,7 @@ ghost use Rattle.wfs_ends.specs.Ends.{Rose};
 use crate::Disk;
 use std::fs::File;
 use std::io;
-use std::io::ErrorKind;
+use std::io::{ErrorKind, IoSlice, Seek, SeekFrom};
 use std::os::unix::fs::FileExt;
 use std::path::Path;
 use std::rt::Files;
@@ -60,6 +60,28 @@ fn read_full(file: &File, at: u64, into: &mut [u8]) -> io::Result<usize>
         }
     }
     Ok(done)
+}
+
+// Writes three pieces one behind the other. The system takes them in one call, or what it leaves goes after them.
+fn write_pieces(file: &File, at: u64, pieces: [&[u8]; 3]) -> io::Result<()> {
+    let mut from = file;
+    from.seek(SeekFrom::Start(at))?;
+    let mut done = match file.write_vectored(&pieces.map(|piece| IoSlice::new(piece))) {
+        Ok(n) => n,
+        Err(e) if e.kind() == ErrorKind::Interrupted => 0,
+        Err(e) => return Err(e),
+    };
+    let mut place = at;
+    for piece in pieces {
+        if done < piece.len() {
+            file.write_all_at(&piece[done..], place.saturating_add(done as u64))?;
+            done = 0;
+        } else {
+            done -= piece.len();
+        }
+        place = place.saturating_add(piece.len() as u64);
+    }
+    Ok(())
 }
 
 fn read_open(file: &Option<File>, at: u64, into: &mut [u8]) -> io::Result<usize>
@@ -153,6 +175,22 @@ impl<R: Files<File = File>> Disk for FileDisk<R> {
         self.open()?;
         let answer = match &self.file {
             Some(file) => file.write_all_at(bytes, at),
+            None => return Err(self.fail()),
+        };
+        self.told(answer)
+    }
+
+    #[tactic(auto, unfolding(crate::specs::Disk::written))]
+    fn write_framed(
+        &mut self,
+        at: u64,
+        head: &[u8],
+        body: &[u8],
+        tail: &[u8],
+    ) -> Result<(), Failed> {
+        self.open()?;
+        let answer = match &self.file {
+            Some(file) => write_pieces(file, at, [head, body, tail]),
             None => return Err(self.fail()),
         };
         self.told(answer)

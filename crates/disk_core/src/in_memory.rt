@@ -1,6 +1,6 @@
 ghost use Rattle.std.specs.Prelude.{◌≡◌, ◌≤◌, ◌<◌, ◌-◌, ◌⊎◌, ◌↔◌, ℕ, List, length, min, take, drop, Some, IfOk, OnOk, OnErr, IsErr};
 ghost use Rattle.wfs_ends.specs.Ends.{Rose};
-ghost use Rattle.disk_core.specs.Disk.{written, cut_to, Same, Torn, Cut, Leads};
+ghost use Rattle.disk_core.specs.Disk.{written, joined, cut_to, Same, Torn, Cut, Leads};
 ghost use Rattle.disk_core.specs.Story.Step.{shortened, synced};
 ghost use Rattle.disk_core.specs.Memory.{Fails, passed, refused, noted, noted_write, reads_as, image_of, image_since, steps_done};
 
@@ -59,7 +59,22 @@ impl Disk for MemDisk {
         ensures count { self.old.failed ≤ self.new.failed }
         ensures cause { OnErr result (Rose self.old.failed self.new.failed) }
     {
-        self.do_write(at, bytes)
+        self.do_write(at, &[], &[], bytes)
+    }
+
+    #[tactic(auto, using(crate::proofs::Remembered::write_done, crate::proofs::Remembered::write_torn, crate::proofs::Remembered::write_leads))]
+    fn write_framed(&mut self, at: u64, head: &[u8], body: &[u8], tail: &[u8]) -> Result<(), Failed>
+        requires { at ≤ length (reads_as self.old) }
+        ensures fails { IsErr result ↔ (Fails self.old ⊎ (self.old.room < length (joined head.now body.now tail.now))) }
+        ensures failed { OnErr result (self.new ≡ refused self.old) }
+        ensures done { OnOk result (self.new ≡ noted_write at (joined head.now body.now tail.now) self.old) }
+        ensures written { OnOk result (Some (reads_as self.new) ≡ written at (joined head.now body.now tail.now) (Some (reads_as self.old))) }
+        ensures torn { Torn at (length (joined head.now body.now tail.now)) (reads_as self.old) (reads_as self.new) }
+        ensures crash { Leads steps_done image_since image_of (Torn at (length (joined head.now body.now tail.now))) self.old self.new }
+        ensures count { self.old.failed ≤ self.new.failed }
+        ensures cause { OnErr result (Rose self.old.failed self.new.failed) }
+    {
+        self.do_write(at, head, body, tail)
     }
 
     #[tactic(auto, using(crate::proofs::Remembered::cut_done, crate::proofs::Remembered::cut_torn, crate::proofs::Remembered::cut_leads))]

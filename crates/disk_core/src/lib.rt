@@ -16,7 +16,7 @@ mod pair;
 pub use disk::Disk;
 pub use file::FileDisk;
 pub use laws::{
-    any_bytes_in_the_range, crash_keeps_the_first, later_write_alone, torn_keeps_the_rest,
+    all_outside_stays, any_bytes_in_the_range, crash_keeps_the_first, later_write_alone,
     write_and_sync,
 };
 pub use memory::MemDisk;

@@ -1,6 +1,6 @@
 ghost use Rattle.std.specs.Prelude.{◌≡◌, ◌≤◌, ◌<◌, ◌+◌, ◌⊎◌, ◌↔◌, ◌++◌, ◌∷◌, ◌-◌, if◌then◌else◌, [], length, min, take, drop, IfOk, OnOk, OnErr, IsErr, IsTrue, Contains, vec_capacity};
 ghost use Rattle.wfs_ends.specs.Ends.{Rose};
-ghost use Rattle.disk_core.specs.Disk.{over};
+ghost use Rattle.disk_core.specs.Disk.{over, joined};
 ghost use Rattle.disk_core.specs.Story.{read_after_all};
 ghost use Rattle.disk_core.specs.Story.Step.{shortened, synced};
 ghost use Rattle.disk_core.specs.Memory.{counted, Stopped, Fails, passed, refused, noted, noted_write, reads_as};
@@ -77,6 +77,30 @@ pub(crate) fn put_over(bytes: &mut Vec<u8>, at: usize, new: &[u8])
     }
 }
 
+// The same with a body between a head and a tail.
+fn put_framed(bytes: &mut Vec<u8>, at: usize, head: &[u8], body: &[u8], tail: &[u8])
+    requires within { at ≤ length bytes.old.items }
+    requires room { length bytes.old.items + length (joined head.now body.now tail.now) ≤ vec_capacity bytes.old }
+    ensures put { bytes.new.items ≡ over at (joined head.now body.now tail.now) bytes.old.items }
+    ensures room { vec_capacity bytes.old ≤ vec_capacity bytes.new }
+{
+    put_over(bytes, at, head);
+    put_over(bytes, at + head.len(), body);
+    put_over(bytes, at + head.len() + body.len(), tail);
+}
+
+// Appends with no more memory.
+fn push_all(text: &mut Vec<u8>, bytes: &[u8])
+    requires { length text.old.items + length bytes.now ≤ vec_capacity text.old }
+    ensures pushed { text.new.items ≡ text.old.items ++ bytes.now }
+    ensures room { vec_capacity text.old ≤ vec_capacity text.new }
+{
+    match text.extend_from_slice(bytes) {
+        Ok(()) => {}
+        Err(_) => unreachable!(),
+    }
+}
+
 // Notes a call, with no more memory.
 fn log_call(log: &mut Vec<Call>, call: Call)
     requires { length log.old.items < vec_capacity log.old }
@@ -90,24 +114,30 @@ fn log_call(log: &mut Vec<Call>, call: Call)
 }
 
 // Notes a write, with no more memory.
-fn log_write(log: &mut Vec<Call>, text: &mut Vec<u8>, at: usize, bytes: &[u8])
+fn log_write(
+    log: &mut Vec<Call>,
+    text: &mut Vec<u8>,
+    at: usize,
+    head: &[u8],
+    body: &[u8],
+    tail: &[u8],
+)
     requires log { length log.old.items < vec_capacity log.old }
-    requires text { length text.old.items + length bytes.now ≤ vec_capacity text.old }
-    ensures pushed { log.new.items ≡ log.old.items ++ Call.Write at (length text.old.items) (length bytes.now) ∷ [] }
-    ensures text { text.new.items ≡ text.old.items ++ bytes.now }
+    requires text { length text.old.items + length (joined head.now body.now tail.now) ≤ vec_capacity text.old }
+    ensures pushed { log.new.items ≡ log.old.items ++ Call.Write at (length text.old.items) (length (joined head.now body.now tail.now)) ∷ [] }
+    ensures text { text.new.items ≡ text.old.items ++ joined head.now body.now tail.now }
     ensures room { (vec_capacity log.old ≤ vec_capacity log.new) × (vec_capacity text.old ≤ vec_capacity text.new) }
 {
     let from = text.len();
-    match text.extend_from_slice(bytes) {
-        Ok(()) => {}
-        Err(_) => unreachable!(),
-    }
+    push_all(text, head);
+    push_all(text, body);
+    push_all(text, tail);
     log_call(
         log,
         Call::Write {
             at,
             from,
-            size: bytes.len(),
+            size: text.len() - from,
         },
     );
 }
@@ -210,13 +240,19 @@ impl MemDisk {
         Ok(self.held().len() as u64)
     }
 
-    pub(crate) fn do_write(&mut self, at: u64, bytes: &[u8]) -> Result<(), Failed>
+    pub(crate) fn do_write(
+        &mut self,
+        at: u64,
+        head: &[u8],
+        body: &[u8],
+        tail: &[u8],
+    ) -> Result<(), Failed>
         requires { at ≤ length (reads_as self.old) }
-        ensures fails { IsErr result ↔ (Fails self.old ⊎ (self.old.room < length bytes.now)) }
+        ensures fails { IsErr result ↔ (Fails self.old ⊎ (self.old.room < length (joined head.now body.now tail.now))) }
         ensures failed { OnErr result (self.new ≡ refused self.old) }
         ensures count { self.old.failed ≤ self.new.failed }
         ensures cause { OnErr result (Rose self.old.failed self.new.failed) }
-        ensures done { OnOk result (self.new ≡ noted_write at bytes.now self.old) }
+        ensures done { OnOk result (self.new ≡ noted_write at (joined head.now body.now tail.now) self.old) }
     {
         if fails(
             &mut self.made,
@@ -227,13 +263,14 @@ impl MemDisk {
         ) {
             return Err(Failed);
         }
-        if bytes.len() as u64 > self.room {
+        let size = head.len() as u128 + body.len() as u128 + tail.len() as u128;
+        if size > self.room as u128 {
             self.faults = self.faults.saturating_add(1);
             return Err(Failed);
         }
-        self.room -= bytes.len() as u64;
-        put_over(&mut self.bytes, at as usize, bytes);
-        log_write(&mut self.log, &mut self.text, at as usize, bytes);
+        self.room -= size as u64;
+        put_framed(&mut self.bytes, at as usize, head, body, tail);
+        log_write(&mut self.log, &mut self.text, at as usize, head, body, tail);
         Ok(())
     }
 

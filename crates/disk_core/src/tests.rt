@@ -23,8 +23,8 @@ fn small_disk(alloc: Global) -> Mem<MemDisk>
 fn a_crash_keeps_the_first_writes(rt: HostRuntime) -> Result<(), Fail> {
     for (keep, left) in [(0, "ab"), (1, "abcd"), (2, "xbcd"), (9, "xbcd")] {
         let mut disk = small_disk(rt.alloc())?;
-        disk.write_at(2, b"cd")?;
-        disk.write_at(0, b"x")?;
+        disk.write_framed(2, b"", b"c", b"d")?;
+        disk.write_framed(0, b"x", b"", b"")?;
         let mut into = [0; 8];
         let mut crashed = disk.crash(keep);
         assert_eq!(rt; crashed.read(0, &mut into)?, left.len());
@@ -61,7 +61,7 @@ fn a_file_is_written_cut_and_read(rt: HostRuntime) -> Result<(), Fail> {
     let name = "a_file_of_the_disk_tests";
     let mut disk = FileDisk::of(rt, Text::of(rt.alloc(), name)?);
     write_and_sync(&mut disk, 0, b"abcdef")?;
-    write_and_sync(&mut disk, 2, b"xy")?;
+    disk.write_framed(1, b"b", b"x", b"y")?;
     disk.cut(5)?;
     disk.sync()?;
     assert_eq!(rt; disk.len()?, 5);

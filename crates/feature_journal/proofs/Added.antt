@@ -1,5 +1,5 @@
 -- A side in the making, behind a closed byte 0.
-use Rattle.std.proofs.Common.{◌≡◌, ℕ, ◌+◌, ◌≤◌, List, [], ◌∷◌, ◌++◌, length, take, drop, refl, sym, ◌∙◌, ap, arith, append_assoc, length-append, Option, IfSome, Bool}
+use Rattle.std.proofs.Common.{◌≡◌, ℕ, ◌+◌, ◌≤◌, List, [], ◌∷◌, ◌++◌, length, get_or, take, drop, refl, sym, ◌∙◌, ap, arith, Option, IfSome, Bool}
 use Rattle.std.proofs.lemmas.List.{append-nil, take_all, drop_all}
 use Rattle.std.specs.Int.{to_be_bytes, w32, w64}
 use Rattle.disk_core.specs.Disk.{over, written, Leads, Every, Begins, Keeps, Goes}
@@ -32,34 +32,29 @@ pub inner_push : (generation : ℕ) (bodies : List (List ℕ)) (body : List ℕ)
 unfolding side
 inner_push generation bodies body = ap (λ (l : List ℕ). 0 ∷ drop 1 l) (side_push generation bodies body)
 
--- the three writes of a record
-added_text : (text size body : List ℕ) → size ≡ to_be_bytes w32 (length body) → ((text ++ 1 ∷ []) ++ size) ++ body ≡ text ++ opened body
-unfolding framed
-added_text text size body is = simp append_assoc (ap (λ (l : List ℕ). text ++ 1 ∷ (l ++ body)) is)
-
--- the two writes of a head
-head_text : (generation : ℕ) (size : List ℕ) → size ≡ to_be_bytes w64 generation → (0 ∷ mark) ++ size ≡ 0 ∷ inner generation []
+-- the write of a head
+head_text : (generation : ℕ) (size : List ℕ) → size ≡ to_be_bytes w64 generation → (0 ∷ []) ++ (mark ++ (size ++ [])) ≡ 0 ∷ inner generation []
 unfolding side
-head_text generation size is = ap (λ (l : List ℕ). 0 ∷ (mark ++ l)) (is ∙ sym (append-nil (to_be_bytes w64 generation)))
+head_text generation size is = ap (λ (l : List ℕ). 0 ∷ (mark ++ (l ++ []))) is
 
-pub head_read : (generation : ℕ) (size : List ℕ) (o first second : Option (List ℕ)) → size ≡ to_be_bytes w64 generation → first ≡ written 1 mark o → second ≡ written 8 size first
-    → IfSome o (λ s. s ≡ 0 ∷ []) → IfSome second (λ s. s ≡ 0 ∷ inner generation [])
-head_read generation size o first second is one two here =
-    let marked = reads_written 1 mark o first (λ s. s ≡ 0 ∷ []) (λ s. s ≡ 0 ∷ mark) (λ s e. over_end 1 (0 ∷ []) mark s refl e) one here in
-    reads_written 8 size first second (λ s. s ≡ 0 ∷ mark) (λ s. s ≡ 0 ∷ inner generation []) (λ s e. over_end 8 (0 ∷ mark) size s refl e ∙ head_text generation size is) two marked
+pub head_read : (generation : ℕ) (size : List ℕ) (o new : Option (List ℕ)) → size ≡ to_be_bytes w64 generation → new ≡ written 1 (mark ++ (size ++ [])) o
+    → IfSome o (λ s. s ≡ 0 ∷ []) → IfSome new (λ s. s ≡ 0 ∷ inner generation [])
+head_read generation size o new is done here =
+    reads_written 1 (mark ++ (size ++ [])) o new (λ s. s ≡ 0 ∷ []) (λ s. s ≡ 0 ∷ inner generation []) (λ s e. over_end 1 (0 ∷ []) (mark ++ (size ++ [])) s refl e ∙ head_text generation size is) done here
 
-pub added_read : (generation place : ℕ) (added : List (List ℕ)) (body size : List ℕ) (o first second third : Option (List ℕ)) → length (side generation added) ≡ place → size ≡ to_be_bytes w32 (length body)
-    → first ≡ written place (1 ∷ []) o → second ≡ written (place + 1) size first → third ≡ written (place + 5) body second
-    → IfSome o (λ s. s ≡ 0 ∷ inner generation added) → IfSome third (λ s. s ≡ 0 ∷ inner generation (added ++ body ∷ []))
-added_read generation place added body size o first second third long is one two three here =
+-- the write of a record, with its open gate
+added_text : (text size body : List ℕ) → size ≡ to_be_bytes w32 (length body) → text ++ ((1 ∷ get_or size 0 0 ∷ get_or size 1 0 ∷ get_or size 2 0 ∷ get_or size 3 0 ∷ []) ++ (body ++ [])) ≡ text ++ opened body
+unfolding framed
+added_text text size body is = λ i. text ++ ((1 ∷ get_or (is i) 0 0 ∷ get_or (is i) 1 0 ∷ get_or (is i) 2 0 ∷ get_or (is i) 3 0 ∷ []) ++ append-nil body i)
+
+pub added_read : (generation place : ℕ) (added : List (List ℕ)) (body size : List ℕ) (o new : Option (List ℕ)) → length (side generation added) ≡ place → size ≡ to_be_bytes w32 (length body)
+    → new ≡ written place ((1 ∷ get_or size 0 0 ∷ get_or size 1 0 ∷ get_or size 2 0 ∷ get_or size 3 0 ∷ []) ++ (body ++ [])) o
+    → IfSome o (λ s. s ≡ 0 ∷ inner generation added) → IfSome new (λ s. s ≡ 0 ∷ inner generation (added ++ body ∷ []))
+added_read generation place added body size o new long is done here =
     let text : List ℕ = 0 ∷ inner generation added in
-    let at : length text ≡ place = length-inner generation added ∙ long in
-    let gate : length (text ++ 1 ∷ []) ≡ place + 1 = omega (arith, at, length-append text (1 ∷ [])) in
-    let framed : length ((text ++ 1 ∷ []) ++ size) ≡ place + 5 = omega (arith, gate, length-append (text ++ 1 ∷ []) size, ap length is) in
-    let opened_gate = reads_written place (1 ∷ []) o first (λ s. s ≡ text) (λ s. s ≡ text ++ 1 ∷ []) (λ s e. over_end place text (1 ∷ []) s at e) one here in
-    let sized = reads_written (place + 1) size first second (λ s. s ≡ text ++ 1 ∷ []) (λ s. s ≡ (text ++ 1 ∷ []) ++ size) (λ s e. over_end (place + 1) (text ++ 1 ∷ []) size s gate e) two opened_gate in
-    reads_written (place + 5) body second third (λ s. s ≡ (text ++ 1 ∷ []) ++ size) (λ s. s ≡ 0 ∷ inner generation (added ++ body ∷ []))
-    (λ s e. over_end (place + 5) ((text ++ 1 ∷ []) ++ size) body s framed e ∙ added_text text size body is ∙ sym (inner_push generation added body)) three sized
+    let record_text : List ℕ = (1 ∷ get_or size 0 0 ∷ get_or size 1 0 ∷ get_or size 2 0 ∷ get_or size 3 0 ∷ []) ++ (body ++ []) in
+    reads_written place record_text o new (λ s. s ≡ text) (λ s. s ≡ 0 ∷ inner generation (added ++ body ∷ []))
+    (λ s e. over_end place text record_text s (length-inner generation added ∙ long) e ∙ added_text text size body is ∙ sym (inner_push generation added body)) done here
 
 pub closed_read : (generation place : ℕ) (added : List (List ℕ)) (o new : Option (List ℕ)) → length (side generation added) ≡ place → new ≡ written place (0 ∷ []) o
     → IfSome o (λ s. s ≡ 0 ∷ inner generation added) → IfSome new (Begins (0 ∷ (inner generation added ++ 0 ∷ [])))

@@ -11,8 +11,8 @@ closed_long front c b = omega (arith, length-begins (front ++ 0 ∷ []) c b, len
 pub gate_long : (front text c : List ℕ) → Gate front text c → length front + 1 ≤ length c
 gate_long front text c b = omega (arith, length-begins _ c b.is, length-append front (b.byte ∷ text))
 
--- the three writes of a record
-pub laid : (front size body c : List ℕ) → size ≡ to_be_bytes w32 (length body) → Begins ((((front ++ 0 ∷ []) ++ size) ++ body) ++ 0 ∷ []) c → Begins (front ++ 0 ∷ behind body) c
+-- a record and a closed gate were written behind a gate
+pub laid : (front size body c : List ℕ) → size ≡ to_be_bytes w32 (length body) → Begins ((front ++ 0 ∷ []) ++ (size ++ (body ++ 0 ∷ []))) c → Begins (front ++ 0 ∷ behind body) c
 unfolding framed
 laid front size body c is b = subst (λ text. Begins text c) (simp append_assoc (ap (λ (l : List ℕ). front ++ 0 ∷ (l ++ (body ++ 0 ∷ []))) is)) b
 

@@ -67,17 +67,21 @@ harmless_more is_b generation lists bodies c one (older own m h) = older own m h
 harmless_more is_b generation lists bodies c one (tied h m) = tied h m
 harmless_more is_b generation lists bodies c one (equal gate own others not_open l o h) = equal gate own others not_open l (one_more lists bodies others one o) h
 
-pub says_or : (r : Reading) (a b : List ℕ) → OneOf r.lists r.bodies → With r.bodies r.body a b → SaysOr r a b
-says_or r a b one (inl s) = inl (record {
+-- a list that is one of these
+pub says_more : (lists : List (List (List ℕ))) (bodies : List (List ℕ)) (a b : List ℕ) → OneOf lists bodies → Says (bodies ∷ []) a b → Says lists a b
+says_more lists bodies a b one s = record {
   second = s.second;
   generation = s.generation;
   bodies = s.bodies;
   list = s.list;
-  one = one_more r.lists r.bodies s.bodies one s.one;
+  one = one_more lists bodies s.bodies one s.one;
   ends = s.ends;
-  beside = harmless_more (not s.second) s.generation r.lists r.bodies (cond s.second a b) one s.beside;
-})
-says_or r a b one (inr s) = inr s
+  beside = harmless_more (not s.second) s.generation lists bodies (cond s.second a b) one s.beside;
+}
+
+pub says_or : (is_closed : Bool) (r : Reading) (a b : List ℕ) → is_closed ≡ false → OneOf r.lists r.bodies → With r.bodies r.body a b → SaysOr is_closed r a b
+says_or is_closed r a b tailed one (inl s) = inl (says_more r.lists r.bodies a b one s)
+says_or is_closed r a b tailed one (inr s) = inr (tailed, s)
 
 pub within_more : {D : Type 0} (moment : D → ℕ) (since : D → ℕ → List ℕ → Type 0) (P Q : List ℕ → List ℕ → Type 0) (old new : Pair D) → ((x y : List ℕ) → P x y → Q x y) → Within moment since P old new → Within moment since Q old new
 within_more moment since P Q old new is w = record { a = w.a; b = w.b; each = λ x y had_a had_b. is x y (w.each x y had_a had_b) }

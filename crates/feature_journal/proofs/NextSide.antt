@@ -4,28 +4,16 @@ use Rattle.disk_core.specs.Disk.{Goes, Every, Begins}
 use Rattle.disk_core.specs.Sides.{Within, EveryBoth, chosen, spare}
 use Rattle.disk_core.specs.declared.pair.Pair.{Pair}
 use Rattle.feature_journal.specs.Side.{side, Closed, Gate}
-use Rattle.feature_journal.specs.Whole.{IsList, Harmless, HarmlessOr, Idle, Says, Stale, OneOf}
+use Rattle.feature_journal.specs.Whole.{IsList, Harmless, HarmlessOr, Idle, Says, Stale}
 use Rattle.feature_journal.specs.Whole.Idle.{idle_older}
 use Rattle.feature_journal.specs.Whole.Ends.{closed}
 use Rattle.feature_journal.specs.Whole.Stale.{stale_greater}
 use Rattle.feature_journal.specs.Held.{HeldClosed}
 use Rattle.feature_journal.specs.Making.{inner}
 use Rattle.feature_journal.proofs.Whole.{says_closed}
-use Rattle.feature_journal.proofs.Knowing.{harmless_more, one_more}
+use Rattle.feature_journal.proofs.Knowing.{says_more}
 use Rattle.feature_journal.proofs.Stale.{stale_says, marked_head, opened_again}
 use Rattle.feature_journal.proofs.Pairs.{still, unmoved}
-
--- a list that is one of these
-pub says_more : (lists : List (List (List ℕ))) (bodies : List (List ℕ)) (a b : List ℕ) → OneOf lists bodies → Says (bodies ∷ []) a b → Says lists a b
-says_more lists bodies a b one s = record {
-  second = s.second;
-  generation = s.generation;
-  bodies = s.bodies;
-  list = s.list;
-  one = one_more lists bodies s.bodies one s.one;
-  ends = s.ends;
-  beside = harmless_more (not s.second) s.generation lists bodies (cond s.second a b) one s.beside;
-}
 
 -- what stands behind byte 0 of a side that was made
 pub next_stale : (is_b : Bool) (generation : ℕ) (bodies added : List (List ℕ)) → IsList (generation + 1) added → Stale is_b generation (bodies ∷ added ∷ []) (inner (generation + 1) added ++ 0 ∷ [])

@@ -46,6 +46,20 @@ module _ {D : Type 0} (moment : D → ℕ) (since : D → ℕ → List ℕ → T
     each = λ x y had_a had_b. says_some false generation bodies body x y held.list fits (idle_harmless _ _ _ held.beside y (unmoved old.b new.b y same had_b)) (goes.each x had_a);
   }
 
+  -- the same, where the gate stays closed
+  pub closed_goes : (second : Bool) (generation gate : ℕ) (bodies : List (List ℕ)) (old new : Pair D) → HeldClosed images second generation gate bodies old
+      → Goes moment since (Closed (side generation bodies)) (chosen second old) (chosen second new) → spare second new ≡ spare second old → Within moment since (Says (bodies ∷ [])) old new
+  closed_goes true generation gate bodies old new held goes same = record {
+    a = still old.a new.a same;
+    b = goes.grows;
+    each = λ x y had_a had_b. says_closed true generation bodies held.list x y (idle_harmless _ _ _ held.beside x (unmoved old.a new.a x same had_a)) (goes.each y had_b);
+  }
+  closed_goes false generation gate bodies old new held goes same = record {
+    a = goes.grows;
+    b = still old.b new.b same;
+    each = λ x y had_a had_b. says_closed false generation bodies held.list x y (idle_harmless _ _ _ held.beside y (unmoved old.b new.b y same had_b)) (goes.each x had_a);
+  }
+
   -- where no call is made
   pub held_still : (second : Bool) (generation gate : ℕ) (bodies : List (List ℕ)) (body : List ℕ) (disks : Pair D) → HeldClosed images second generation gate bodies disks → Within moment since (With bodies body) disks disks
   held_still true generation gate bodies body disks held = record {

@@ -15,23 +15,36 @@ use Rattle.feature_journal.specs.Making.{Making, inner}
 abbrev pub greatest_side : ℕ
 greatest_side = 268435456
 
--- What a journal is seen as: its disks, which of them is current, the generation of that side, its length up to and
--- with its ending gate, the limit of that length, whether something is begun, and the length of the side in the
--- making.
+-- What a journal is seen as.
+pub record Kept (D : Type 0) : Type 0 where
+  pub disks : Pair D
+  -- whether side b is current, the generation of that side, the place of its ending gate, and the limit of its length
+  pub second : Bool
+  pub generation : ℕ
+  pub gate : ℕ
+  pub limit : ℕ
+  -- what is begun, and the place of the ending gate of the side in the making
+  pub begun : Pending
+  pub made : ℕ
+
+abbrev pub seen : {D : Type 0} → Journal D → Kept D
+seen journal = record { disks = journal.disks; second = journal.second_side; generation = journal.generation; gate = journal.gate; limit = journal.side; begun = journal.begun; made = journal.made }
+
 abbrev pub disks_of : {D : Type 0} → Journal D → Pair D
-disks_of journal = journal.disks
+disks_of journal = (seen journal).disks
 
 abbrev pub is_second : {D : Type 0} → Journal D → Bool
-is_second journal = journal.second_side
+is_second journal = (seen journal).second
 
 abbrev pub generation_in : {D : Type 0} → Journal D → ℕ
-generation_in journal = journal.generation
+generation_in journal = (seen journal).generation
 
+-- the length up to and with the ending gate
 abbrev pub length_of : {D : Type 0} → Journal D → ℕ
-length_of journal = journal.gate + 1
+length_of journal = (seen journal).gate + 1
 
 abbrev pub limit_of : {D : Type 0} → Journal D → ℕ
-limit_of journal = journal.side
+limit_of journal = (seen journal).limit
 
 abbrev pub is_pending : Pending → Bool
 is_pending Nothing = false
@@ -39,10 +52,10 @@ is_pending Record = true
 is_pending Side = true
 
 abbrev pub has_begun : {D : Type 0} → Journal D → Bool
-has_begun journal = is_pending journal.begun
+has_begun journal = is_pending (seen journal).begun
 
 abbrev pub made_length_of : {D : Type 0} → Journal D → ℕ
-made_length_of journal = journal.made + 1
+made_length_of journal = (seen journal).made + 1
 
 -- the same side is current, with the same length and limit
 pub record SameSide {D : Type 0} (old new : Journal D) : Type 0 where
@@ -52,40 +65,40 @@ pub record SameSide {D : Type 0} (old new : Journal D) : Type 0 where
   pub limit : limit_of new ≡ limit_of old
 
 -- The disks stand for this list, and nothing is begun.
-pub record Rests {D : Type 0} (images : D → List ℕ → Type 0) (bodies : List (List ℕ)) (journal : Journal D) : Type 0 where
-  pub begun : journal.begun ≡ Nothing
-  pub held : HeldClosed images journal.second_side journal.generation journal.gate bodies journal.disks
-  pub within : journal.gate + 1 ≤ journal.side
-  pub limit : journal.side ≤ greatest_side
+pub record Rests {D : Type 0} (images : D → List ℕ → Type 0) (bodies : List (List ℕ)) (kept : Kept D) : Type 0 where
+  pub begun : kept.begun ≡ Nothing
+  pub held : HeldClosed images kept.second kept.generation kept.gate bodies kept.disks
+  pub within : kept.gate + 1 ≤ kept.limit
+  pub limit : kept.limit ≤ greatest_side
 
 -- The disks stand for this list, or for it with this body, which is begun.
-pub record Began {D : Type 0} (images : D → List ℕ → Type 0) (bodies : List (List ℕ)) (body : List ℕ) (journal : Journal D) : Type 0 where
-  pub begun : journal.begun ≡ Record
-  pub held : HeldBegun images journal.second_side journal.generation journal.gate bodies body journal.disks
+pub record Began {D : Type 0} (images : D → List ℕ → Type 0) (bodies : List (List ℕ)) (body : List ℕ) (kept : Kept D) : Type 0 where
+  pub begun : kept.begun ≡ Record
+  pub held : HeldBegun images kept.second kept.generation kept.gate bodies body kept.disks
   pub fits : Fits body
-  pub within : journal.gate + 1 ≤ journal.side
-  pub limit : journal.side ≤ greatest_side
+  pub within : kept.gate + 1 ≤ kept.limit
+  pub limit : kept.limit ≤ greatest_side
 
 -- The disks stand for this list, or for this other one, with which a side is begun.
-pub record BeganSide {D : Type 0} (images : D → List ℕ → Type 0) (bodies added : List (List ℕ)) (journal : Journal D) : Type 0 where
-  pub begun : journal.begun ≡ Side
-  pub list : IsList journal.generation bodies
-  pub size : length (side journal.generation bodies) ≡ journal.gate
-  pub ends : Every (images (chosen journal.second_side journal.disks)) (Closed (side journal.generation bodies))
-  pub next : IsList (journal.generation + 1) added
-  pub beside : Every (images (spare journal.second_side journal.disks)) (Gate [] (inner (journal.generation + 1) added ++ 0 ∷ []))
-  pub within : journal.gate + 1 ≤ journal.side
-  pub limit : journal.side ≤ greatest_side
+pub record BeganSide {D : Type 0} (images : D → List ℕ → Type 0) (bodies added : List (List ℕ)) (kept : Kept D) : Type 0 where
+  pub begun : kept.begun ≡ Side
+  pub list : IsList kept.generation bodies
+  pub size : length (side kept.generation bodies) ≡ kept.gate
+  pub ends : Every (images (chosen kept.second kept.disks)) (Closed (side kept.generation bodies))
+  pub next : IsList (kept.generation + 1) added
+  pub beside : Every (images (spare kept.second kept.disks)) (Gate [] (inner (kept.generation + 1) added ++ 0 ∷ []))
+  pub within : kept.gate + 1 ≤ kept.limit
+  pub limit : kept.limit ≤ greatest_side
 
 -- The disks stand for this list, and the other side holds these records so far.
-pub record Makes {D : Type 0} (shown : D → Option (List ℕ)) (images : D → List ℕ → Type 0) (bodies added : List (List ℕ)) (journal : Journal D) : Type 0 where
-  pub rests : Rests images bodies journal
-  pub making : Making shown images (journal.generation + 1) journal.made added (spare journal.second_side journal.disks)
-  pub room : journal.made + 1 ≤ journal.side
+pub record Makes {D : Type 0} (shown : D → Option (List ℕ)) (images : D → List ℕ → Type 0) (bodies added : List (List ℕ)) (kept : Kept D) : Type 0 where
+  pub rests : Rests images bodies kept
+  pub making : Making shown images (kept.generation + 1) kept.made added (spare kept.second kept.disks)
+  pub room : kept.made + 1 ≤ kept.limit
 
 -- the disks stand for a list, or for it and what is begun
-abbrev pub Stands : {D : Type 0} (images : D → List ℕ → Type 0) → Journal D → Type 0
-Stands images journal =
-    ((bodies : List (List ℕ)) × Rests images bodies journal)
-    ⊎ (((bodies : List (List ℕ)) × (body : List ℕ) × Began images bodies body journal)
-    ⊎ ((bodies : List (List ℕ)) × (added : List (List ℕ)) × BeganSide images bodies added journal))
+abbrev pub Stands : {D : Type 0} (images : D → List ℕ → Type 0) → Kept D → Type 0
+Stands images kept =
+    ((bodies : List (List ℕ)) × Rests images bodies kept)
+    ⊎ (((bodies : List (List ℕ)) × (body : List ℕ) × Began images bodies body kept)
+    ⊎ ((bodies : List (List ℕ)) × (added : List (List ℕ)) × BeganSide images bodies added kept))

@@ -8,3 +8,4 @@ pub mod Recover
 pub mod Settled
 pub mod Nothing
 pub mod Making
+pub mod Faults

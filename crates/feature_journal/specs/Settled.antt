@@ -34,6 +34,6 @@ pub record Known {D : Type 0} (images : D → List ℕ → Type 0) (second : Boo
   pub stale : is_stale ≡ true → Stale (not second) r.generation r.lists r.text × Every (images (spare second disks)) (Gate [] r.text)
   pub idle : is_stale ≡ false → Idle (not second) r.generation (images (spare second disks))
 
--- a list, or the one with the tail
-abbrev pub SaysOr : Reading → List ℕ → List ℕ → Type 0
-SaysOr r a b = Says r.lists a b ⊎ Says ((r.bodies ++ r.body ∷ []) ∷ []) a b
+-- a list, or, where a tail stands, the one with it
+abbrev pub SaysOr : (is_closed : Bool) → Reading → List ℕ → List ℕ → Type 0
+SaysOr is_closed r a b = Says r.lists a b ⊎ ((is_closed ≡ false) × Says ((r.bodies ++ r.body ∷ []) ∷ []) a b)

@@ -19,8 +19,12 @@ fn head_on<D: Disk>(disk: &mut D, generation: u64) -> Result<(), Failed>
     ensures count { D.faults disk.old ≤ D.faults disk.new }
     ensures cause { OnErr result (Rose (D.faults disk.old) (D.faults disk.new)) }
 {
-    disk.write_at(1, &[87, 70, 83, 74, 78, 76, 1])?;
-    disk.write_at(8, &generation.to_be_bytes())
+    disk.write_framed(
+        1,
+        &[87, 70, 83, 74, 78, 76, 1],
+        &generation.to_be_bytes(),
+        &[],
+    )
 }
 
 // Begins a side of this generation.
@@ -45,9 +49,8 @@ pub(crate) fn add_on<D: Disk>(disk: &mut D, place: u64, body: &[u8]) -> Result<(
     ensures count { D.faults disk.old ≤ D.faults disk.new }
     ensures cause { OnErr result (Rose (D.faults disk.old) (D.faults disk.new)) }
 {
-    disk.write_at(place, &[1])?;
-    disk.write_at(place + 1, &(body.len() as u32).to_be_bytes())?;
-    disk.write_at(place + 5, body)
+    let size = (body.len() as u32).to_be_bytes();
+    disk.write_framed(place, &[1, size[0], size[1], size[2], size[3]], body, &[])
 }
 
 // Ends the records with a closed gate, and makes them stable.

@@ -6,7 +6,7 @@ ghost use Rattle.feature_journal.specs.Side.{opened, side};
 ghost use Rattle.feature_journal.specs.Whole.{Says, Fits};
 ghost use Rattle.feature_journal.specs.Held.{StandsFor, StandsForEither};
 ghost use Rattle.feature_journal.specs.Nothing.{Unmade, IsWhole};
-ghost use Rattle.feature_journal.specs.Kept.{Rests, Began, BeganSide, disks_of};
+ghost use Rattle.feature_journal.specs.Kept.{seen, Rests, Began, BeganSide, disks_of};
 ghost use Rattle.feature_journal.specs.Recover.{records_at, recover, tail_in};
 ghost use Rattle.feature_journal.specs.Recover.Recovered.{no_side, found, not_a_journal};
 
@@ -37,7 +37,7 @@ pub fn reads_records_back()
 /// Where a journal rests, each image is whole and says its list. Where a record is begun, it says the list, or the list
 /// with it, and where a side is begun, the list or the records of that side.
 pub fn stands<D: Disk>(journal: &Journal<D>)
-    ensures rests { (bodies : List (List ℕ)) → Rests D.images bodies journal.now → StandsFor D.images bodies (disks_of journal.now) }
-    ensures begun { (bodies : List (List ℕ)) (body : List ℕ) → Began D.images bodies body journal.now → StandsForEither D.images bodies body (disks_of journal.now) }
-    ensures side { (bodies added : List (List ℕ)) → BeganSide D.images bodies added journal.now → EveryBoth D.images (Says (bodies ∷ added ∷ [])) (disks_of journal.now) }
+    ensures rests { (bodies : List (List ℕ)) → Rests D.images bodies (seen journal.now) → StandsFor D.images bodies (disks_of journal.now) }
+    ensures begun { (bodies : List (List ℕ)) (body : List ℕ) → Began D.images bodies body (seen journal.now) → StandsForEither D.images bodies body (disks_of journal.now) }
+    ensures side { (bodies added : List (List ℕ)) → BeganSide D.images bodies added (seen journal.now) → EveryBoth D.images (Says (bodies ∷ added ∷ [])) (disks_of journal.now) }
 {}

@@ -97,6 +97,8 @@ pub(crate) fn make_first<D: Disk>(disks: &mut Pair<D>) -> Making
     requires { Unused (D.images disks.old.a) × Unused (D.images disks.old.b) }
     ensures goes { Within D.moment D.since Nothing disks.old disks.new }
     ensures done { result ≡ Making.Done → HeldClosed D.images false 1 16 [] disks.new }
+    ensures other { disks.new.b ≡ disks.old.b }
+    ensures count { D.faults disks.old.a ≤ D.faults disks.new.a }
     ensures cause { (result ≡ Making.Done) ⊎ Rose (D.faults disks.old.a) (D.faults disks.new.a) }
 {
     make_on(

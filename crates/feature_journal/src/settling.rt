@@ -44,9 +44,9 @@ fn quiet_stale<D: Disk>(disks: &mut Pair<D>, second: bool, is_stale: bool) -> Re
     }
 }
 
-// Makes the chosen side stable.
+// Makes the chosen side stable, which is closed.
 fn sync_chosen<D: Disk>(disks: &mut Pair<D>, second: bool) -> Result<(), Failed>
-    ensures goes { (r : Reading) (gate : ℕ) → Known D.images second gate false true r disks.old → Within D.moment D.since (SaysOr r) disks.old disks.new }
+    ensures goes { (r : Reading) (gate : ℕ) → Known D.images second gate false true r disks.old → Within D.moment D.since (Says r.lists) disks.old disks.new }
     ensures held { (r : Reading) (gate : ℕ) → Known D.images second gate false true r disks.old → HeldClosed D.images second r.generation gate r.bodies disks.new }
     ensures count { (D.faults disks.old.a ≤ D.faults disks.new.a) × (D.faults disks.old.b ≤ D.faults disks.new.b) }
     ensures cause { OnErr result (Rose (D.faults disks.old.a) (D.faults disks.new.a) ⊎ Rose (D.faults disks.old.b) (D.faults disks.new.b)) }
@@ -66,7 +66,7 @@ fn close<D: Disk>(
     is_closed: bool,
 ) -> Result<(), Failed>
     requires { (r : Reading) × Known D.images second gate false is_closed r disks.old }
-    ensures goes { (r : Reading) → Known D.images second gate false is_closed r disks.old → Within D.moment D.since (SaysOr r) disks.old disks.new }
+    ensures goes { (r : Reading) → Known D.images second gate false is_closed r disks.old → Within D.moment D.since (SaysOr is_closed r) disks.old disks.new }
     ensures held { OnOk result ((r : Reading) → Known D.images second gate false is_closed r disks.old → HeldClosed D.images second r.generation gate r.bodies disks.new) }
     ensures count { (D.faults disks.old.a ≤ D.faults disks.new.a) × (D.faults disks.old.b ≤ D.faults disks.new.b) }
     ensures cause { OnErr result (Rose (D.faults disks.old.a) (D.faults disks.new.a) ⊎ Rose (D.faults disks.old.b) (D.faults disks.new.b)) }
@@ -78,7 +78,9 @@ fn close<D: Disk>(
     }
 }
 
-/// What recovery writes: from here on a crash leaves the list, or the list with the tail, until the gate is closed for good.
+/// What recovery writes, once both files were synced and read: it closes byte 0 of a stale side, and then the ending
+/// gate, each for good. Until then a crash leaves the list, or, where a tail stands behind that gate, the list with it.
+/// After Ok the files stand for the list alone.
 pub fn settle<D: Disk>(
     disks: &mut Pair<D>,
     second: bool,
@@ -87,7 +89,7 @@ pub fn settle<D: Disk>(
     is_closed: bool,
 ) -> Result<(), Failed>
     requires { (r : Reading) × Known D.images second gate is_stale is_closed r disks.old }
-    ensures goes { (r : Reading) → Known D.images second gate is_stale is_closed r disks.old → Always D.moment D.since (SaysOr r) disks.old disks.new }
+    ensures goes { (r : Reading) → Known D.images second gate is_stale is_closed r disks.old → Always D.moment D.since (SaysOr is_closed r) disks.old disks.new }
     ensures held { OnOk result ((r : Reading) → Known D.images second gate is_stale is_closed r disks.old → HeldClosed D.images second r.generation gate r.bodies disks.new) }
     ensures count { (D.faults disks.old.a ≤ D.faults disks.new.a) × (D.faults disks.old.b ≤ D.faults disks.new.b) }
     ensures cause { OnErr result (Rose (D.faults disks.old.a) (D.faults disks.new.a) ⊎ Rose (D.faults disks.old.b) (D.faults disks.new.b)) }

@@ -1,6 +1,8 @@
-ghost use Rattle.std.specs.Prelude.{◌≡◌, ◌<◌, List, ℕ, IfOk};
+ghost use Rattle.std.specs.Prelude.{◌≡◌, ◌<◌, ◌∷◌, [], List, ℕ, length, IfOk};
+ghost use Rattle.disk_core.specs.Disk.{Every};
+ghost use Rattle.feature_journal.specs.Settled.{TailOf};
 ghost use Rattle.feature_journal.specs.Nothing.{Unused};
-ghost use Rattle.feature_journal.specs.Kept.{Rests, generation_in};
+ghost use Rattle.feature_journal.specs.Kept.{seen, Rests, generation_in};
 
 use super::*;
 use disk_core::{Disk, MemDisk, Pair};
@@ -16,7 +18,8 @@ const SECOND: [u8; 24] = *b"\0WFSJNL\x01\0\0\0\0\0\0\0\x02\x01\0\0\0\x02hi\0";
 
 // An empty disk. The calls that are listed fail, and all from the stop on.
 fn empty_disk(alloc: Global, listed: &[u64], stop: Option<u64>) -> Mem<MemDisk>
-    ensures { IfOk result (λ m. Unused (⟦<MemDisk as Disk>⟧.images m)) }
+    ensures unused { IfOk result (λ m. Unused (⟦<MemDisk as Disk>⟧.images m)) }
+    ensures few { IfOk result (λ m. Every (⟦<MemDisk as Disk>⟧.images m) (λ c. length c < 17)) }
 {
     let mut failing = Vec::new(alloc);
     failing.extend_from_slice(listed)?;
@@ -49,7 +52,7 @@ fn run_repair<D: Disk + Drop>(disks: Pair<D>) -> Result<(bool, bool, Pair<D>), F
 }
 
 fn make_side<D: Disk>(journal: &mut Journal<D>) -> bool
-    requires rests { (bodies : List (List ℕ)) × Rests D.images bodies journal.old }
+    requires rests { (bodies : List (List ℕ)) × Rests D.images bodies (seen journal.old) }
     requires first { generation_in journal.old ≡ 1 }
 {
     match journal.begin_side() {
@@ -72,6 +75,73 @@ fn run_side<D: Disk + Drop>(disks: Pair<D>) -> Result<(bool, bool, Pair<D>), Fai
     Ok((is_done, journal.is_begun(), journal.into_disks()))
 }
 
+// Adds a record of 102 bytes to a fresh journal, and then this one: the lengths after each, the generation and the disks.
+fn run_lengths<D: Disk + Drop>(
+    disks: Pair<D>,
+    body: &[u8; 26],
+) -> Result<([u64; 2], u64, Pair<D>), Failed>
+    requires { Unused (D.images disks.a) × Unused (D.images disks.b) }
+{
+    let Ok(mut journal) = Journal::fresh(disks, 200) else {
+        return Err(Failed);
+    };
+    match journal.append(&[7; 102]) {
+        Err(_) => Err(Failed),
+        Ok(()) => {
+            let first = journal.side_length();
+            match journal.append(body) {
+                Err(_) => Err(Failed),
+                Ok(()) => Ok((
+                    [first, journal.side_length()],
+                    journal.generation(),
+                    journal.into_disks(),
+                )),
+            }
+        }
+    }
+}
+
+// Makes a fresh journal: whether that was done, and the disks.
+fn run_fresh<D: Disk + Drop>(disks: Pair<D>) -> (bool, Pair<D>)
+    requires { Unused (D.images disks.a) × Unused (D.images disks.b) }
+{
+    match Journal::fresh(disks, 100) {
+        Ok(journal) => (true, journal.into_disks()),
+        Err((disks, _)) => (false, disks),
+    }
+}
+
+// Side a holds `hi`, and then the tail `x` behind a gate that is neither open nor closed. The calls that are listed fail.
+fn tailed_disk(alloc: Global, listed: &[u64]) -> Mem<MemDisk>
+    ensures { IfOk result (λ m. Every (⟦<MemDisk as Disk>⟧.images m) (TailOf (record { lists = ((104 ∷ 105 ∷ []) ∷ []) ∷ []; generation = 1; bodies = (104 ∷ 105 ∷ []) ∷ []; body = 120 ∷ []; text = [] }))) }
+{
+    let mut bytes = Vec::new(alloc);
+    bytes.extend_from_slice(b"\x01WFSJNL\x01\0\0\0\0\0\0\0\x01\x01\0\0\0\x02hi\x05\0\0\0\x01x\0")?;
+    let mut failing = Vec::new(alloc);
+    failing.extend_from_slice(listed)?;
+    MemDisk::new(alloc, bytes, 60, 200, failing, None)
+}
+
+// Ends the tail, and takes the journal over: its length and generation and whether something is begun, and the disks.
+fn run_settle<D: Disk + Drop>(disks: Pair<D>) -> (Option<(u64, u64, bool)>, Pair<D>)
+    requires tailed { Every (D.images disks.a) (TailOf (record { lists = ((104 ∷ 105 ∷ []) ∷ []) ∷ []; generation = 1; bodies = (104 ∷ 105 ∷ []) ∷ []; body = 120 ∷ []; text = [] })) }
+    requires few { Every (D.images disks.b) (λ c. length c < 17) }
+{
+    let mut disks = disks;
+    match settle(&mut disks, false, 23, false, false) {
+        Err(_) => (None, disks),
+        Ok(()) => {
+            let journal = Journal::adopt(disks, false, 1, 23, 100);
+            let seen = (
+                journal.side_length(),
+                journal.generation(),
+                journal.is_begun(),
+            );
+            (Some(seen), journal.into_disks())
+        }
+    }
+}
+
 // Whether a crash that keeps so many writes leaves just the first bytes of these.
 fn leaves(disk: MemDisk, keep: u32, want: &[u8; 24], length: usize) -> bool {
     let mut crashed = disk.crash(keep);
@@ -82,22 +152,19 @@ fn leaves(disk: MemDisk, keep: u32, want: &[u8; 24], length: usize) -> bool {
     }
 }
 
-// The disk calls of a fresh journal are 0 to 7. Then come the length, the body, the closed gate and a sync, and the
-// open gate and a sync. A row is the failing call, whether the record was added and is begun, how many writes since the
-// last sync the crash keeps, and the length and the gate that it leaves.
+// The disk calls of a fresh journal are 0 to 7. Then come the record and a sync, and the open gate and a sync. A row is
+// the failing call, whether the record was added and is begun, how many writes since the last sync the crash keeps, and
+// the length and the gate that it leaves.
 #[test]
 fn each_call_of_append_may_fail(rt: HostRuntime) -> Result<(), Fail> {
     for (call, is_added, is_begun, keep, length, gate) in [
         (8, false, false, 9, 17, 0),
-        (9, false, false, 9, 21, 0),
-        (10, false, false, 1, 21, 0),
-        (10, false, false, 9, 23, 0),
-        (11, false, false, 0, 17, 0),
-        (11, false, false, 9, 24, 0),
-        (12, false, true, 9, 24, 0),
-        (13, false, true, 0, 24, 0),
-        (13, false, true, 1, 24, 1),
-        (14, true, false, 0, 24, 1),
+        (9, false, false, 0, 17, 0),
+        (9, false, false, 9, 24, 0),
+        (10, false, true, 9, 24, 0),
+        (11, false, true, 0, 24, 0),
+        (11, false, true, 1, 24, 1),
+        (12, true, false, 0, 24, 1),
     ] {
         let mut want = FIRST;
         want[16] = gate;
@@ -122,13 +189,13 @@ fn each_call_of_append_may_fail(rt: HostRuntime) -> Result<(), Fail> {
 #[test]
 fn each_call_of_repair_may_fail(rt: HostRuntime) -> Result<(), Fail> {
     for (first, second, is_repaired, keep, gate) in [
-        (12, 13, false, 9, 0),
-        (12, 14, false, 0, 0),
-        (13, 14, false, 0, 0),
-        (13, 14, false, 9, 1),
-        (13, 15, false, 1, 1),
-        (13, 15, false, 2, 0),
-        (13, 16, true, 9, 0),
+        (10, 11, false, 9, 0),
+        (10, 12, false, 0, 0),
+        (11, 12, false, 0, 0),
+        (11, 12, false, 9, 1),
+        (11, 13, false, 1, 1),
+        (11, 13, false, 2, 0),
+        (11, 14, true, 9, 0),
     ] {
         let mut want = FIRST;
         want[16] = gate;
@@ -148,8 +215,7 @@ fn each_call_of_repair_may_fail(rt: HostRuntime) -> Result<(), Fail> {
     Ok(())
 }
 
-// On side b: a read, byte 0 and a sync; the cut, the mark and the generation; the record's gate, length and body; the
-// closed gate and a sync; byte 0 and a sync.
+// On side b: a read, byte 0 and a sync; the cut and the head; the record; the closed gate and a sync; byte 0 and a sync.
 #[test]
 fn each_call_of_a_side_may_fail(rt: HostRuntime) -> Result<(), Fail> {
     for (call, is_made, is_begun, keep, length, first) in [
@@ -159,17 +225,14 @@ fn each_call_of_a_side_may_fail(rt: HostRuntime) -> Result<(), Fail> {
         (2, false, false, 9, 1, 0),
         (3, false, false, 9, 1, 0),
         (4, false, false, 9, 1, 0),
-        (5, false, false, 9, 8, 0),
-        (6, false, false, 9, 16, 0),
-        (7, false, false, 9, 17, 0),
-        (8, false, false, 9, 21, 0),
-        (9, false, false, 9, 23, 0),
-        (10, false, false, 0, 1, 0),
-        (10, false, false, 9, 24, 0),
-        (11, false, true, 9, 24, 0),
-        (12, false, true, 0, 24, 0),
-        (12, false, true, 1, 24, 1),
-        (13, true, false, 0, 24, 1),
+        (5, false, false, 9, 16, 0),
+        (6, false, false, 9, 23, 0),
+        (7, false, false, 0, 1, 0),
+        (7, false, false, 9, 24, 0),
+        (8, false, true, 9, 24, 0),
+        (9, false, true, 0, 24, 0),
+        (9, false, true, 1, 24, 1),
+        (10, true, false, 0, 24, 1),
     ] {
         let mut want = SECOND;
         want[0] = first;
@@ -188,6 +251,86 @@ fn each_call_of_a_side_may_fail(rt: HostRuntime) -> Result<(), Fail> {
         let (done, begun, disks) = run_side(Pair { a, b })?;
         assert_eq!(rt; (done, begun), (is_made, is_begun), "stopped at {call}");
         assert!(rt; leaves(disks.b, keep, &want, length), "stopped at {call}");
+    }
+    Ok(())
+}
+
+// The bytes of the first record's side, and of the insert of one feature with a text of one letter, as their format gives
+// them.
+#[test]
+fn a_side_is_as_long_as_its_records(rt: HostRuntime) -> Result<(), Fail> {
+    let body = b"\x02\0\0\0\x01\x01\0\0\0\0\0\0\0\0\0\x01\0\x03\x01\0\0\0\x01A\0\0";
+    let alloc = rt.alloc();
+    let (a, b) = (empty_disk(alloc, &[], None)?, empty_disk(alloc, &[], None)?);
+    let (lengths, generation, disks) = run_lengths(Pair { a, b }, body)?;
+    assert_eq!(rt; (lengths, generation), ([124, 155], 1));
+    let mut left = disks.a.crash(0);
+    let mut into = [9; 156];
+    assert_eq!(rt; left.read(0, &mut into)?, 155);
+    assert!(rt; into.starts_with(b"\x01WFSJNL\x01\0\0\0\0\0\0\0\x01\x01\0\0\0\x66\x07"));
+    assert!(rt;
+        into.ends_with(
+            b"\x07\x01\0\0\0\x1a\x02\0\0\0\x01\x01\0\0\0\0\0\0\0\0\0\x01\0\x03\x01\0\0\0\x01A\0\0\0\x09"
+        )
+    );
+    Ok(())
+}
+
+// A read, byte 0 and a sync; the cut, the rest and a sync; byte 0 and a sync.
+#[test]
+fn each_call_of_fresh_may_fail(rt: HostRuntime) -> Result<(), Fail> {
+    for (call, is_made, keep, length, first) in [
+        (0, false, 9, 0, 0),
+        (1, false, 9, 0, 0),
+        (2, false, 0, 0, 0),
+        (2, false, 9, 1, 0),
+        (3, false, 9, 1, 0),
+        (4, false, 9, 1, 0),
+        (5, false, 1, 1, 0),
+        (5, false, 2, 17, 0),
+        (6, false, 9, 17, 0),
+        (7, false, 0, 17, 0),
+        (7, false, 1, 17, 1),
+        (8, true, 0, 17, 1),
+    ] {
+        let mut want = FIRST;
+        want[0] = first;
+        let alloc = rt.alloc();
+        let (a, b) = (
+            empty_disk(alloc, &[call], None)?,
+            empty_disk(alloc, &[], None)?,
+        );
+        let (done, disks) = run_fresh(Pair { a, b });
+        assert_eq!(rt; done, is_made, "at {call}");
+        assert!(rt; leaves(disks.a, keep, &want, length), "at {call}");
+        let (a, b) = (
+            empty_disk(alloc, &[], Some(call))?,
+            empty_disk(alloc, &[], None)?,
+        );
+        let (done, disks) = run_fresh(Pair { a, b });
+        assert_eq!(rt; done, is_made, "stopped at {call}");
+        assert!(rt; leaves(disks.a, keep, &want, length), "stopped at {call}");
+    }
+    Ok(())
+}
+
+// The ending gate is written, and synced. A row has also the gate that is left.
+#[test]
+fn each_call_of_settle_may_fail(rt: HostRuntime) -> Result<(), Fail> {
+    for (call, seen, keep, gate) in [
+        (0, None, 9, 5),
+        (1, None, 0, 5),
+        (1, None, 1, 0),
+        (2, Some((24, 1, false)), 0, 0),
+    ] {
+        let mut want = FIRST;
+        want[16] = 1;
+        want[23] = gate;
+        let alloc = rt.alloc();
+        let (a, b) = (tailed_disk(alloc, &[call])?, empty_disk(alloc, &[], None)?);
+        let (answer, disks) = run_settle(Pair { a, b });
+        assert_eq!(rt; answer, seen, "at {call}");
+        assert!(rt; leaves(disks.a, keep, &want, 24), "at {call}");
     }
     Ok(())
 }

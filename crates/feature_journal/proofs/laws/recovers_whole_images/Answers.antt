@@ -1,5 +1,4 @@
-use Rattle.std.proofs.Common.{◌≡◌, ◌⊎◌, inl, inr, sym, ◌∙◌}
-use Rattle.feature_journal.specs.Whole.{Says}
+use Rattle.std.proofs.Common.{inl, inr}
 use Rattle.feature_journal.proofs.Recovered.{says_recovered, unmade_recovered}
 use Rattle.feature_journal.proofs.laws.recovers_whole_images.Goals as goal
 

@@ -1,19 +1,20 @@
-use Rattle.std.proofs.Common.{true, false, refl, sym, subst, inl}
+use Rattle.std.proofs.Common.{[], ◌∷◌, true, false, refl, sym, subst}
 use Rattle.disk_core.specs.Disk.{Same}
 use Rattle.disk_core.proofs.Runs.{goes, every_on}
-use Rattle.feature_journal.specs.Side.{Closed, ClosedOrBegun, side}
-use Rattle.feature_journal.specs.Held.{HeldClosed, With}
-use Rattle.feature_journal.specs.Settled.{Known, SaysOr}
-use Rattle.feature_journal.proofs.Pairs.{held_goes, held_now}
-use Rattle.feature_journal.proofs.Knowing.{held_of, says_or, within_more}
+use Rattle.feature_journal.specs.Side.{Closed, side}
+use Rattle.feature_journal.specs.Whole.{Says}
+use Rattle.feature_journal.specs.Held.{HeldClosed}
+use Rattle.feature_journal.specs.Settled.{Known}
+use Rattle.feature_journal.proofs.Pairs.{closed_goes, held_now}
+use Rattle.feature_journal.proofs.Knowing.{held_of, says_more, within_more}
 use Rattle.feature_journal.proofs.settling.sync_chosen.Goals as goal
 
 pub returns-then-second-clause-goes : goal.returns-then-second-clause-goes
 returns-then-second-clause-goes g c r gate k =
     let held = held_of g.D.Disk.images true gate r c.args.disks.now (subst (λ s. Known g.D.Disk.images s gate false true r c.args.disks.now) c.if-second.true k) in
-    within_more g.D.Disk.moment g.D.Disk.since (With r.bodies r.body) (SaysOr r) c.args.disks.now _ (λ x y says. says_or r x y k.one says)
-    (held_goes g.D.Disk.moment g.D.Disk.since g.D.Disk.images g.met.D.Disk.counts g.met.D.Disk.only true r.generation gate r.bodies r.body Closed c.args.disks.now (record { a = c.args.disks.now.a; b = c.sync.new.self }) k.fits held
-    (goes g.D.Disk.moment g.D.Disk.since g.D.Disk.images Same (Closed (side r.generation r.bodies)) (ClosedOrBegun (side r.generation r.bodies) r.body) c.args.disks.now.b _ (λ e b. inl b) (λ d e b same. inl (subst (Closed (side r.generation r.bodies)) (sym same) b)) c.sync.ensures.crash held.ends) refl)
+    within_more g.D.Disk.moment g.D.Disk.since (Says (r.bodies ∷ [])) (Says r.lists) c.args.disks.now _ (λ x y says. says_more r.lists r.bodies x y k.one says)
+    (closed_goes g.D.Disk.moment g.D.Disk.since g.D.Disk.images g.met.D.Disk.counts g.met.D.Disk.only true r.generation gate r.bodies c.args.disks.now (record { a = c.args.disks.now.a; b = c.sync.new.self }) held
+    (goes g.D.Disk.moment g.D.Disk.since g.D.Disk.images Same (Closed (side r.generation r.bodies)) (Closed (side r.generation r.bodies)) c.args.disks.now.b _ (λ e b. b) (λ d e b same. subst (Closed (side r.generation r.bodies)) (sym same) b) c.sync.ensures.crash held.ends) refl)
 
 pub returns-then-second-clause-held : goal.returns-then-second-clause-held
 returns-then-second-clause-held g c r gate k =
@@ -25,9 +26,9 @@ returns-then-second-clause-held g c r gate k =
 pub returns-else-second-clause-goes : goal.returns-else-second-clause-goes
 returns-else-second-clause-goes g c r gate k =
     let held = held_of g.D.Disk.images false gate r c.args.disks.now (subst (λ s. Known g.D.Disk.images s gate false true r c.args.disks.now) c.if-second.false k) in
-    within_more g.D.Disk.moment g.D.Disk.since (With r.bodies r.body) (SaysOr r) c.args.disks.now _ (λ x y says. says_or r x y k.one says)
-    (held_goes g.D.Disk.moment g.D.Disk.since g.D.Disk.images g.met.D.Disk.counts g.met.D.Disk.only false r.generation gate r.bodies r.body Closed c.args.disks.now (record { a = c.sync-else-second.new.self; b = c.args.disks.now.b }) k.fits held
-    (goes g.D.Disk.moment g.D.Disk.since g.D.Disk.images Same (Closed (side r.generation r.bodies)) (ClosedOrBegun (side r.generation r.bodies) r.body) c.args.disks.now.a _ (λ e b. inl b) (λ d e b same. inl (subst (Closed (side r.generation r.bodies)) (sym same) b)) c.sync-else-second.ensures.crash held.ends) refl)
+    within_more g.D.Disk.moment g.D.Disk.since (Says (r.bodies ∷ [])) (Says r.lists) c.args.disks.now _ (λ x y says. says_more r.lists r.bodies x y k.one says)
+    (closed_goes g.D.Disk.moment g.D.Disk.since g.D.Disk.images g.met.D.Disk.counts g.met.D.Disk.only false r.generation gate r.bodies c.args.disks.now (record { a = c.sync-else-second.new.self; b = c.args.disks.now.b }) held
+    (goes g.D.Disk.moment g.D.Disk.since g.D.Disk.images Same (Closed (side r.generation r.bodies)) (Closed (side r.generation r.bodies)) c.args.disks.now.a _ (λ e b. b) (λ d e b same. subst (Closed (side r.generation r.bodies)) (sym same) b) c.sync-else-second.ensures.crash held.ends) refl)
 
 pub returns-else-second-clause-held : goal.returns-else-second-clause-held
 returns-else-second-clause-held g c r gate k =

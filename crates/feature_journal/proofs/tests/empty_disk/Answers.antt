@@ -1,4 +1,5 @@
 use Rattle.std.proofs.Common.{◌≡◌, ◌<◌, List, [], ℕ, length, Result, Ok, Err, IfOk, refl, sym, ap, subst, arith}
+use Rattle.disk_core.specs.Disk.{Every}
 use Rattle.disk_core.specs.Story.{Step, LeftAll, Image}
 use Rattle.disk_core.specs.Memory.{Memory, image_of}
 use Rattle.feature_journal.specs.Nothing.{Unused}
@@ -16,5 +17,12 @@ empty_unused : {E : Type 0} (r : Result Memory E) (v : Memory) → v.base ≡ []
 empty_unused (Ok m) v none still e = subst (λ (m : Memory). Unused (image_of m)) (sym e) (unused v.base v.steps none still)
 empty_unused (Err e) v none still is = tt
 
-pub returns : goal.returns
-returns c = empty_unused c.new-2.result _ c.new.ensures.items refl c.new-2.ensures
+empty_few : {E : Type 0} (r : Result Memory E) (v : Memory) → v.base ≡ [] → v.steps ≡ [] → IfOk r (λ m. m ≡ v) → IfOk r (λ m. Every (image_of m) (λ c. length c < 17))
+empty_few (Ok m) v none still e = subst (λ (m : Memory). Every (image_of m) (λ c. length c < 17)) (sym e) (λ c here. only_empty c (subst (λ (b : List ℕ). Image b [] c) none (subst (λ (l : List Step). Image v.base l c) still here)))
+empty_few (Err e) v none still is = tt
+
+pub returns-clause-unused : goal.returns-clause-unused
+returns-clause-unused c = empty_unused c.new-2.result _ c.new.ensures.items refl c.new-2.ensures
+
+pub returns-clause-few : goal.returns-clause-few
+returns-clause-few c = empty_few c.new-2.result _ c.new.ensures.items refl c.new-2.ensures
