@@ -19,7 +19,7 @@ property = [ {name="course", kind="line"} ]
 
 // Files that are wrong in one way: what is wrong, the text of `MARKS` that is replaced, what stands in its place,
 // and the line.
-pub const WRONG: [(&str, &str, &str, &str); 61] = [
+pub static WRONG: [(&str, &str, &str, &str); 61] = [
     (
         "an open bracket",
         r#""EPSG:25832"]"#,
@@ -289,7 +289,7 @@ pub const WRONG: [(&str, &str, &str, &str); 61] = [
 ];
 
 // Files that are right, in the same form.
-pub const RIGHT: [(&str, &str, &str, &str); 12] = [
+pub static RIGHT: [(&str, &str, &str, &str); 12] = [
     ("the file itself", r#""Marks""#, r#""Marks""#, "Ok"),
     (
         "a tab in the title",
@@ -335,7 +335,7 @@ pub const RIGHT: [(&str, &str, &str, &str); 12] = [
 ];
 
 // A quoted text of `MARKS`, what stands in its place so many times, and the line.
-pub const LENGTHS: [(&str, &str, usize, &str); 20] = [
+pub static LENGTHS: [(&str, &str, usize, &str); 20] = [
     (r#""Marks""#, "a", 256, "Ok"),
     (r#""Marks""#, "a", 257, "Key title"),
     (r#""Marks""#, "\u{1f5fa}", 256, "Ok"),
@@ -376,7 +376,7 @@ srs=["S"]
 "#;
 
 // What stands behind `HEAD`, and the line. Most are wrong in several ways, of which the first counts.
-pub const ENDS: [(&str, &str); 25] = [
+pub static ENDS: [(&str, &str); 25] = [
     ("", "Key type"),
     ("zoo=1", "Key type"),
     ("type=[]", "Key type"),
