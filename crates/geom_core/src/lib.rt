@@ -5,6 +5,7 @@ mod extent;
 mod fault;
 mod geometry;
 mod line;
+mod path;
 mod placing;
 mod polygon;
 mod position;

@@ -68,7 +68,7 @@ impl Polygon {
     }
 
     /// An equal polygon. `AllocError`: there is no memory for it.
-    pub fn copy(&self, alloc: Global) -> Result<Polygon, AllocError>
+    pub(crate) fn copy(&self, alloc: Global) -> Result<Polygon, AllocError>
         ensures { IfOk result (λ a. a ≡ self.now) }
     {
         Ok(Polygon {

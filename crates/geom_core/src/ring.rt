@@ -4,8 +4,7 @@ ghost use Rattle.geom_core.specs.Plane.{least_box};
 ghost use Rattle.geom_core.specs.Extents.{IsLeastBox};
 ghost use Rattle.geom_core.specs.Places.{place_of};
 
-use crate::extent::least_box;
-use crate::line::copy_of;
+use crate::path::Path;
 use crate::placing::{Place, place_in};
 use crate::position::is_same;
 use crate::{Box2, GeomFault, MOST_POSITIONS, Pos};
@@ -15,20 +14,19 @@ use std::marker::Model;
 /// A closed path of four to 10,000 positions, the last of which is the first. It may cross itself.
 #[derive(Debug, Drop)]
 pub struct Ring {
-    positions: Vec<Pos>,
-    bounds: Box2,
+    path: Path,
 }
 
 impl Model for Ring {
-    ghost use Rattle.std.specs.Prelude.{List, ◌≡◌};
-    ghost use Rattle.geom_core.specs.Plane.{Point, least_box};
+    ghost use Rattle.std.specs.Prelude.{List};
+    ghost use Rattle.geom_core.specs.Plane.{Point};
     ghost use Rattle.geom_core.specs.Shapes.{IsRing};
 
     ghost Value = { List Point };
 
-    ghost view = { λ l. l.positions.items };
+    ghost view = { λ r. r.path };
 
-    ghost invariant = { λ l. IsRing l.positions.items × (l.bounds ≡ least_box l.positions.items) };
+    ghost invariant = { λ r. IsRing r.path };
 }
 
 impl Ring {
@@ -47,15 +45,16 @@ impl Ring {
         if !is_closed(all) {
             return Err(GeomFault::NotClosed);
         }
-        let bounds = least_box(all);
-        Ok(Ring { positions, bounds })
+        Ok(Ring {
+            path: Path::new(positions),
+        })
     }
 
     /// The positions, in order.
     pub fn positions(&self) -> &[Pos]
         ensures { result.now ≡ self.now }
     {
-        self.positions.as_slice()
+        self.path.positions()
     }
 
     /// How many positions it has.
@@ -63,21 +62,21 @@ impl Ring {
         ensures value { result ≡ length self.now }
         ensures many { result ≤ 10_000 }
     {
-        self.positions.len()
+        self.path.positions().len()
     }
 
     /// Where a position lies in the ring.
     pub fn place(&self, p: Pos) -> Place
         ensures { result ≡ place_of p self.now }
     {
-        place_in(p, self.positions.as_slice())
+        place_in(p, self.path.positions())
     }
 
     /// The first position.
     pub fn first(&self) -> Pos
         ensures { slice_get self.now 0 ≡ Some result }
     {
-        self.positions[0]
+        self.path.first()
     }
 
     /// The least box that holds the ring.
@@ -87,16 +86,15 @@ impl Ring {
         ensures closed { IsTrue (is_closed self.now) }
         ensures some { 0 < length self.now }
     {
-        self.bounds
+        self.path.bounds()
     }
 
     /// An equal ring. `AllocError`: there is no memory for it.
-    pub fn copy(&self, alloc: Global) -> Result<Ring, AllocError>
-        ensures { IfOk result (λ l. l ≡ self.now) }
+    pub(crate) fn copy(&self, alloc: Global) -> Result<Ring, AllocError>
+        ensures { IfOk result (λ r. r ≡ self.now) }
     {
         Ok(Ring {
-            positions: copy_of(alloc, self.positions.as_slice())?,
-            bounds: self.bounds,
+            path: self.path.copy(alloc)?,
         })
     }
 }
@@ -120,7 +118,7 @@ impl PartialEq for Ring {
     ghost laws = { Prim.search (comparing, rules) };
 
     fn eq(&self, other: &Ring) -> bool {
-        self.positions.as_slice() == other.positions.as_slice()
+        self.path == other.path
     }
 }
 

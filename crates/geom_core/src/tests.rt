@@ -4,181 +4,246 @@ use std::test::Fail;
 
 const FAR: i64 = 1_000_000_000;
 
-/// Two segments by their ends, and whether they share a position.
-static SEGMENTS: [([(i64, i64); 4], bool); 15] = [
-    ([(0, 0), (10, 10), (0, 10), (10, 0)], true),
-    ([(0, 0), (5, 5), (5, 5), (9, 0)], true),
-    ([(0, 0), (10, 0), (5, 0), (5, 5)], true),
-    ([(5, 0), (5, 5), (0, 0), (10, 0)], true),
-    ([(0, 0), (3, 0), (4, 0), (9, 0)], false),
-    ([(0, 0), (5, 0), (3, 0), (9, 0)], true),
-    ([(0, 0), (9, 0), (3, 0), (5, 0)], true),
-    ([(0, 0), (9, 0), (0, 1), (9, 1)], false),
-    ([(0, 0), (10, 10), (6, 5), (10, 0)], false),
-    ([(3, 3), (3, 3), (0, 0), (6, 6)], true),
-    ([(3, 4), (3, 4), (0, 0), (6, 6)], false),
-    ([(-FAR, -FAR), (FAR, FAR), (-FAR, FAR), (FAR, -FAR)], true),
-    ([(-FAR, -FAR), (FAR, FAR - 1), (0, 0), (0, 0)], false),
-    ([(FAR, 0), (FAR, FAR), (FAR, 5), (FAR, 5)], true),
-    ([(FAR, 0), (FAR, FAR), (FAR - 1, 5), (FAR - 1, 5)], false),
-];
+type Place = (i64, i64);
 
-static FIELD: [(i64, i64); 5] = [(0, 0), (10, 0), (10, 10), (0, 10), (0, 0)];
+static FIELD: [Place; 5] = [(0, 0), (10, 0), (10, 10), (0, 10), (0, 0)];
 
-static GAP: [(i64, i64); 5] = [(2, 2), (4, 2), (4, 4), (2, 4), (2, 2)];
+static GAP: [Place; 5] = [(2, 2), (4, 2), (4, 4), (2, 4), (2, 2)];
 
-static DIAMOND: [(i64, i64); 5] = [(0, 0), (5, -5), (10, 0), (5, 5), (0, 0)];
+static BOW: [Place; 5] = [(0, 0), (10, 10), (10, 0), (0, 10), (0, 0)];
 
-static STAR: [(i64, i64); 6] = [(0, 10), (6, -8), (-10, 3), (10, 3), (-6, -8), (0, 10)];
-
-static BOW: [(i64, i64); 5] = [(0, 0), (10, 10), (10, 0), (0, 10), (0, 0)];
-
-/// Positions, and whether they lie in the area of the ring of that name: corners on the ray, and
-/// rings that cross themselves.
-static IN_DIAMOND: [((i64, i64), bool); 6] = [
-    ((5, 0), true),
-    ((-1, 0), false),
-    ((-1, 5), false),
-    ((-1, -5), false),
-    ((0, 0), true),
-    ((11, 0), false),
-];
-
-static IN_STAR: [((i64, i64), bool); 2] = [((0, 0), false), ((0, 8), true)];
-
-static IN_BOW: [((i64, i64), bool); 3] = [((9, 5), true), ((5, 1), false), ((5, 5), true)];
-
-/// A position, and whether it lies in the field with the gap as its hole.
-static IN_FIELD: [((i64, i64), bool); 9] = [
-    ((10, 10), true),
-    ((3, 3), false),
-    ((2, 3), true),
-    ((4, 4), true),
-    ((1, 2), true),
-    ((5, 3), true),
-    ((5, 0), true),
-    ((11, 5), false),
-    ((-1, 2), false),
-];
-
-fn at(place: (i64, i64)) -> Option<Pos> {
-    Pos::new(place.0, place.1).ok()
+fn at(place: Place) -> Result<Pos, GeomFault> {
+    Pos::new(place.0, place.1)
 }
 
-fn path(alloc: Global, places: &[(i64, i64)]) -> Result<Vec<Pos>, AllocError> {
-    let mut all = Vec::new(alloc);
+/// The ring through these places, the last of them this many times.
+fn ring(
+    alloc: Global,
+    places: &[Place],
+    times: usize,
+) -> Result<Result<Ring, GeomFault>, AllocError> {
+    let mut positions = Vec::new(alloc);
     for place in places {
-        if let Some(p) = at(*place) {
-            all.push(p)?;
+        match at(*place) {
+            Ok(p) => positions.push(p)?,
+            Err(fault) => return Ok(Err(fault)),
         }
     }
-    Ok(all)
+    if let Some(last) = positions.last().copied() {
+        for _ in 1..times {
+            positions.push(last)?;
+        }
+    }
+    Ok(Ring::new(positions))
 }
 
+/// The polygon of a shell and, if it has places, a hole, whose last place stands this many times.
 fn polygon(
     alloc: Global,
-    shell: &[(i64, i64)],
-    hole: &[(i64, i64)],
-) -> Result<Option<Polygon>, AllocError> {
+    shell: &[Place],
+    hole: &[Place],
+    times: usize,
+) -> Result<Result<Polygon, GeomFault>, AllocError> {
     let mut holes = Vec::new(alloc);
-    if let Ok(ring) = Ring::new(path(alloc, hole)?) {
-        holes.push(ring)?;
+    if !hole.is_empty() {
+        match ring(alloc, hole, times)? {
+            Ok(hole) => holes.push(hole)?,
+            Err(fault) => return Ok(Err(fault)),
+        }
     }
-    match Ring::new(path(alloc, shell)?) {
-        Ok(ring) => Ok(Polygon::new(ring, holes).ok()),
-        Err(_) => Ok(None),
-    }
-}
-
-fn meet(ends: &[(i64, i64); 4]) -> Option<bool> {
-    Some(segments_meet(at(ends[0])?, at(ends[1])?, at(ends[2])?, at(ends[3])?))
-}
-
-/// Whether the area is as the table says at each of its positions.
-fn agrees(area: &Polygon, rows: &[((i64, i64), bool)]) -> bool {
-    rows.iter().all(|row| match at(row.0) {
-        Some(p) => in_area(p, area) == row.1,
-        None => false,
-    })
-}
-
-#[test]
-fn segments_meet_by_table(rt: HostRuntime) {
-    let rows = SEGMENTS;
-    for (ends, want) in rows {
-        assert_eq!(rt; meet(&ends), Some(want));
+    match ring(alloc, shell, 1)? {
+        Ok(shell) => Ok(Polygon::new(shell, holes)),
+        Err(fault) => Ok(Err(fault)),
     }
 }
 
 #[test]
-fn areas_by_table(rt: HostRuntime) -> Result<(), Fail> {
-    let alloc = rt.alloc();
-    for (shell, rows) in [
+fn first_fault_of_a_polygon(rt: HostRuntime) -> Result<(), Fail> {
+    let away: [Place; 4] = [(20, 20), (21, 20), (21, 21), (20, 20)];
+    let partly: [Place; 4] = [(8, 8), (12, 8), (8, 9), (8, 8)];
+    for (name, shell, hole, times, want) in [
+        ("no hole", &FIELD as &[Place], &[] as &[Place], 1, None),
+        ("a hole", &FIELD, &GAP, 1, None),
         (
-            &DIAMOND as &[(i64, i64)],
-            &IN_DIAMOND as &[((i64, i64), bool)],
+            "three corners",
+            &[(0, 0), (1, 0), (1, 1), (0, 0)],
+            &[],
+            1,
+            None,
         ),
-        (&STAR, &IN_STAR),
-        (&BOW, &IN_BOW),
+        ("the hole's corners on the shell", &FIELD, &BOW, 1, None),
+        (
+            "far away",
+            &[(0, 0), (FAR + 1, 0)],
+            &[],
+            1,
+            Some(GeomFault::OutOfRange),
+        ),
+        (
+            "far below",
+            &[(0, 0), (0, -FAR - 1)],
+            &[],
+            1,
+            Some(GeomFault::OutOfRange),
+        ),
+        (
+            "few",
+            &[(0, 0), (1, 0), (0, 0)],
+            &[],
+            1,
+            Some(GeomFault::TooFew),
+        ),
+        (
+            "few before not closed",
+            &[(0, 0), (1, 0), (1, 1)],
+            &[],
+            1,
+            Some(GeomFault::TooFew),
+        ),
+        (
+            "same x",
+            &[(0, 0), (1, 0), (1, 1), (0, 1)],
+            &[],
+            1,
+            Some(GeomFault::NotClosed),
+        ),
+        (
+            "same y",
+            &[(0, 0), (1, 1), (0, 1), (1, 0)],
+            &[],
+            1,
+            Some(GeomFault::NotClosed),
+        ),
+        (
+            "ring of many",
+            &FIELD,
+            &GAP,
+            9_997,
+            Some(GeomFault::TooMany),
+        ),
+        (
+            "many before not closed",
+            &FIELD,
+            &[(3, 3), (2, 3)],
+            10_000,
+            Some(GeomFault::TooMany),
+        ),
+        ("many in all", &FIELD, &GAP, 9_992, Some(GeomFault::TooMany)),
+        ("10,000 in all", &FIELD, &GAP, 9_991, None),
+        (
+            "many before outside",
+            &FIELD,
+            &away,
+            9_993,
+            Some(GeomFault::TooMany),
+        ),
+        (
+            "outside",
+            &FIELD,
+            &away,
+            9_992,
+            Some(GeomFault::HoleOutside),
+        ),
+        (
+            "partly outside",
+            &FIELD,
+            &partly,
+            1,
+            Some(GeomFault::HoleOutside),
+        ),
+        (
+            "shell in the hole",
+            &GAP,
+            &FIELD,
+            1,
+            Some(GeomFault::HoleOutside),
+        ),
     ] {
-        let area = polygon(alloc, shell, &[])?;
-        assert!(rt; area.is_some_and(|area| agrees(&area, rows)));
+        let fault = polygon(rt.alloc(), shell, hole, times)?.err();
+        assert_eq!(rt; fault, want, "{name}");
     }
     Ok(())
 }
 
 #[test]
-fn field_with_a_hole(rt: HostRuntime) -> Result<(), Fail> {
-    let Some(area) = polygon(rt.alloc(), &FIELD, &GAP)? else {
+fn lines_and_boxes(rt: HostRuntime) -> Result<(), Fail> {
+    let alloc = rt.alloc();
+    if let (Ok(low), Ok(high)) = (at((0, 4)), at((1, 5))) {
+        for (count, want) in [
+            (1, Some(GeomFault::TooFew)),
+            (2, None),
+            (10_000, None),
+            (10_001, Some(GeomFault::TooMany)),
+        ] {
+            assert_eq!(rt; Line::new(vec![in alloc; low; count]?).err(), want);
+        }
+        let beside = at((0, 5)).unwrap_or(low);
+        assert!(rt; Box2::new(low, high).is_ok() && Box2::new(low, low).is_ok());
+        assert!(rt; Box2::new(high, beside) == Err(GeomFault::Turned));
+        assert!(rt; Box2::new(beside, low) == Err(GeomFault::Turned));
+    } else {
         assert!(rt; false);
-        return Ok(());
-    };
-    assert!(rt; agrees(&area, &IN_FIELD));
-    let field = Geometry::Over(area);
-    assert!(rt; field.copy(rt.alloc())? == field);
-    let bounds = bounds(&field);
-    assert!(rt;
-        bounds.low.x == 0 && bounds.low.y == 0 && bounds.high.x == 10 && bounds.high.y == 10
-    );
+    }
     Ok(())
 }
 
 #[test]
 fn sides_of_a_line(rt: HostRuntime) {
-    let places = (
-        at((-FAR, -FAR)),
-        at((FAR, FAR)),
-        at((FAR, -FAR)),
-        at((7, 7)),
-    );
-    if let (Some(a), Some(b), Some(c), Some(d)) = places {
-        assert_eq!(rt; orient(a, b, c), -1);
-        assert_eq!(rt; orient(b, a, c), 1);
-        assert_eq!(rt; orient(a, b, d), 0);
-    } else {
-        assert!(rt; false);
+    for (a, b, c, want) in [
+        ((-FAR, -FAR), (FAR, FAR), (FAR, -FAR), -1),
+        ((FAR, FAR), (-FAR, -FAR), (FAR, -FAR), 1),
+        ((-FAR, -FAR), (FAR, FAR), (7, 7), 0),
+        ((-FAR, -FAR), (FAR, FAR), (FAR - 1, FAR), 1),
+        ((3, 3), (3, 3), (7, 9), 0),
+    ] {
+        if let (Ok(a), Ok(b), Ok(c)) = (at(a), at(b), at(c)) {
+            assert_eq!(rt; orient(a, b, c), want);
+        } else {
+            assert!(rt; false);
+        }
     }
 }
 
+/// Whether a copy is equal and has these rings, and the bounds are the shell's.
+fn is_field(g: &Geometry) -> bool {
+    let box_is_right = match (at((0, 0)), at((10, 10))) {
+        (Ok(low), Ok(high)) => bounds(g).low == low && bounds(g).high == high,
+        _ => false,
+    };
+    match g {
+        Geometry::Over(area) => {
+            let shell = area.shell().positions();
+            let holes = area.holes();
+            box_is_right
+                && stands_at(shell, &FIELD)
+                && holes.iter().all(|hole| stands_at(hole.positions(), &GAP))
+        }
+        _ => false,
+    }
+}
+
+/// Whether the positions are at these places.
+fn stands_at(positions: &[Pos], places: &[Place]) -> bool {
+    positions.len() == places.len()
+        && positions
+            .iter()
+            .zip(places.iter())
+            .all(|(p, place)| at(*place) == Ok(*p))
+}
+
 #[test]
-fn first_fault_is_named(rt: HostRuntime) -> Result<(), Fail> {
+fn copies_are_equal(rt: HostRuntime) -> Result<(), Fail> {
     let alloc = rt.alloc();
-    assert!(rt; Pos::new(FAR + 1, 0) == Err(GeomFault::OutOfRange));
-    assert!(rt; Pos::new(0, -FAR - 1) == Err(GeomFault::OutOfRange));
-    assert!(rt; Ring::new(path(alloc, &[(0, 0), (1, 0), (0, 0)])?) == Err(GeomFault::TooFew));
-    assert!(rt;
-        Ring::new(path(alloc, &[(0, 0), (1, 0), (1, 1), (0, 1)])?) == Err(GeomFault::NotClosed)
-    );
-    assert!(rt; Ring::new(path(alloc, &[(0, 0), (1, 0), (1, 1), (0, 0)])?).is_ok());
-    assert!(rt; Line::new(path(alloc, &[(0, 0)])?) == Err(GeomFault::TooFew));
-    assert!(rt; Line::new(path(alloc, &[(0, 0), (0, 0)])?).is_ok());
-    assert!(rt; polygon(alloc, &FIELD, &BOW)?.is_some());
-    assert!(rt; polygon(alloc, &GAP, &FIELD)?.is_none());
-    if let (Some(low), Some(high)) = (at((0, 5)), at((1, 4))) {
-        assert!(rt; Box2::new(low, high) == Err(GeomFault::Turned));
-        assert!(rt; Box2::new(low, low).is_ok());
-        assert!(rt; Ring::new(vec![in alloc; low; 10_001]?) == Err(GeomFault::TooMany));
-        assert!(rt; Line::new(vec![in alloc; low; 10_000]?).is_ok());
+    if let (Ok(area), Ok(p)) = (polygon(alloc, &FIELD, &GAP, 1)?, at((7, 7))) {
+        let field = Geometry::Over(area);
+        let copy = field.copy(alloc)?;
+        assert!(rt; is_field(&field) && is_field(&copy) && copy == field);
+        let point = Geometry::At(p);
+        assert!(rt; point.copy(alloc)? == point && point != field);
+        if let Ok(line) = Line::new(vec![in alloc; p; 2]?) {
+            let line = Geometry::Along(line);
+            assert!(rt; line.copy(alloc)? == line && line != point);
+        }
     } else {
         assert!(rt; false);
     }

@@ -1,15 +1,139 @@
 use super::*;
-use geom_core::{Box2, Geometry, Line, Polygon, Pos, Ring};
+use geom_core::{Box2, Geometry, Line, Polygon, Pos, Ring, in_area, segments_meet};
 use std::alloc::{AllocError, Global};
 use std::test::Fail;
 
 const FAR: i64 = 1_000_000_000;
 
-fn at(place: (i64, i64)) -> Option<Pos> {
+type Place = (i64, i64);
+
+/// A shape of the table.
+#[derive(Clone, Copy)]
+enum Sketch {
+    At(Place),
+    Along(Place, Place),
+    /// A box by its low and its high corner.
+    Between(Place, Place),
+    /// The line from the origin to the field's far corner, and that along the last x.
+    Rising,
+    Way,
+    Field,
+    /// The field with a small hole, and with a large one.
+    Gapped,
+    Pitted,
+    Isle,
+    Diamond,
+    Star,
+    Bow,
+}
+
+use Sketch::{Along, At, Between, Bow, Diamond, Field, Gapped, Isle, Pitted, Rising, Star, Way};
+
+/// Two shapes, and whether they share a position.
+static ROWS: [(&str, Sketch, Sketch, bool); 51] = [
+    ("crossing", Rising, Along((0, 10), (10, 0)), true),
+    ("end on end", Rising, Along((10, 10), (19, 0)), true),
+    ("end on side", Rising, Along((5, 5), (5, 9)), true),
+    ("collinear, apart", Rising, Along((11, 11), (19, 19)), false),
+    (
+        "collinear, end on end",
+        Rising,
+        Along((10, 10), (19, 19)),
+        true,
+    ),
+    ("overlapping", Rising, Along((5, 5), (19, 19)), true),
+    ("overlapping whole", Rising, Along((3, 3), (5, 5)), true),
+    ("parallel", Rising, Along((0, 1), (9, 10)), false),
+    ("bounds meet alone", Rising, Along((6, 5), (10, 0)), false),
+    ("disjoint", Rising, Along((20, 0), (30, 10)), false),
+    ("point on a line", Rising, At((4, 4)), true),
+    ("point beside a line", Rising, At((4, 5)), false),
+    ("point beyond a line", Rising, At((11, 11)), false),
+    ("same point", At((4, 4)), At((4, 4)), true),
+    ("two points", At((4, 4)), At((4, 5)), false),
+    (
+        "far edges, crossing",
+        Along((-FAR, -FAR), (FAR, FAR)),
+        Along((-FAR, FAR), (FAR, -FAR)),
+        true,
+    ),
+    (
+        "far edges, near miss",
+        Along((-FAR, -FAR), (FAR, FAR - 1)),
+        At((0, 0)),
+        false,
+    ),
+    ("way, box on it", Way, Between((FAR, 5), (FAR, 5)), true),
+    (
+        "way, box beside it",
+        Way,
+        Between((FAR - 1, 5), (FAR - 1, 5)),
+        false,
+    ),
+    (
+        "way, box over all",
+        Way,
+        Between((-FAR, -FAR), (FAR, FAR)),
+        true,
+    ),
+    ("box at a corner", Gapped, Between((10, 10), (12, 12)), true),
+    ("box in a hole", Gapped, Between((3, 3), (3, 3)), false),
+    ("box of a hole", Gapped, Between((2, 2), (4, 4)), true),
+    (
+        "box round a field",
+        Gapped,
+        Between((-5, -5), (20, 20)),
+        true,
+    ),
+    ("box within a field", Gapped, Between((5, 5), (6, 6)), true),
+    (
+        "box beside a field",
+        Gapped,
+        Between((11, 0), (12, 10)),
+        false,
+    ),
+    ("in a hole", Gapped, At((3, 3)), false),
+    ("on a hole's ring", Gapped, At((2, 3)), true),
+    ("hole's corner", Gapped, At((4, 4)), true),
+    ("hole's corners on ray", Gapped, At((1, 2)), true),
+    ("past a hole", Gapped, At((5, 3)), true),
+    ("field's corner", Gapped, At((10, 10)), true),
+    ("field's edge", Gapped, At((5, 0)), true),
+    ("beside the field", Gapped, At((11, 5)), false),
+    ("before the field", Gapped, At((-1, 2)), false),
+    (
+        "line ends on a corner",
+        Field,
+        Along((20, 20), (10, 10)),
+        true,
+    ),
+    (
+        "line passes a corner",
+        Field,
+        Along((11, 9), (9, 12)),
+        false,
+    ),
+    ("line within", Field, Along((3, 3), (4, 6)), true),
+    ("polygon within", Field, Isle, true),
+    ("polygon in a hole", Pitted, Isle, false),
+    ("point in a hole", Pitted, At((5, 5)), false),
+    ("line to a hole's ring", Pitted, Along((5, 5), (8, 5)), true),
+    ("two corners on ray", Diamond, At((-1, 0)), false),
+    ("one corner on ray", Diamond, At((5, 0)), true),
+    ("top on ray", Diamond, At((-1, 5)), false),
+    ("foot on ray", Diamond, At((-1, -5)), false),
+    ("star, its middle", Star, At((0, 0)), false),
+    ("star, its top", Star, At((0, 8)), true),
+    ("bow, within", Bow, At((9, 5)), true),
+    ("bow, between its halves", Bow, At((5, 1)), false),
+    ("bow, its knot", Bow, At((5, 5)), true),
+];
+
+fn at(place: Place) -> Option<Pos> {
     Pos::new(place.0, place.1).ok()
 }
 
-fn path(alloc: Global, places: &[(i64, i64)]) -> Result<Vec<Pos>, AllocError> {
+fn path(alloc: Global, places: &[Place]) -> Result<Vec<Pos>, AllocError> {
     let mut all = Vec::new(alloc);
     for place in places {
         if let Some(p) = at(*place) {
@@ -19,45 +143,24 @@ fn path(alloc: Global, places: &[(i64, i64)]) -> Result<Vec<Pos>, AllocError> {
     Ok(all)
 }
 
-/// A point of one place, a polygon of a closed path, else a line.
-fn shape(alloc: Global, places: &[(i64, i64)]) -> Result<Option<Geometry>, AllocError> {
-    if let [place] = places {
-        return Ok(at(*place).map(|p| Geometry::At(p)));
-    }
-    match Ring::new(path(alloc, places)?) {
-        Ok(shell) => Ok(
-            Polygon::new(shell, Vec::new(alloc))
-                .ok()
-                .map(|area| Geometry::Over(area)),
-        ),
-        Err(_) => Ok(
-            Line::new(path(alloc, places)?)
-                .ok()
-                .map(|line| Geometry::Along(line)),
-        ),
-    }
+/// The line between two places.
+fn line(alloc: Global, from: Place, to: Place) -> Result<Option<Geometry>, AllocError> {
+    Ok(
+        Line::new(path(alloc, &[from, to])?)
+            .ok()
+            .map(|line| Geometry::Along(line)),
+    )
 }
 
-/// A square with a square hole.
-fn field(alloc: Global, side: i64, low: i64, high: i64) -> Result<Option<Geometry>, AllocError> {
-    let shell = path(alloc, &[(0, 0), (side, 0), (side, side), (0, side), (0, 0)])?;
-    let hole = path(
-        alloc,
-        &[
-            (low, low),
-            (high, low),
-            (high, high),
-            (low, high),
-            (low, low),
-        ],
-    )?;
+/// The polygon of a shell and, if it has places, a hole.
+fn polygon(alloc: Global, shell: &[Place], hole: &[Place]) -> Result<Option<Geometry>, AllocError> {
     let mut holes = Vec::new(alloc);
-    if let Ok(ring) = Ring::new(hole) {
+    if let Ok(ring) = Ring::new(path(alloc, hole)?) {
         holes.push(ring)?;
     }
-    match Ring::new(shell) {
-        Ok(ring) => Ok(
-            Polygon::new(ring, holes)
+    match Ring::new(path(alloc, shell)?) {
+        Ok(shell) => Ok(
+            Polygon::new(shell, holes)
                 .ok()
                 .map(|area| Geometry::Over(area)),
         ),
@@ -65,85 +168,76 @@ fn field(alloc: Global, side: i64, low: i64, high: i64) -> Result<Option<Geometr
     }
 }
 
-fn share(a: &Option<Geometry>, b: &Option<Geometry>) -> Option<(bool, bool)> {
+/// The square between these corners.
+fn square(low: i64, high: i64) -> [Place; 5] {
+    sides((low, low), (high, high))
+}
+
+/// The ring round a box.
+fn sides(low: Place, high: Place) -> [Place; 5] {
+    [low, (high.0, low.1), high, (low.0, high.1), low]
+}
+
+/// The sketched shape; of a box the polygon of its sides.
+fn shape(alloc: Global, sketch: Sketch) -> Result<Option<Geometry>, AllocError> {
+    match sketch {
+        At(place) => Ok(at(place).map(|p| Geometry::At(p))),
+        Along(from, to) => line(alloc, from, to),
+        Rising => line(alloc, (0, 0), (10, 10)),
+        Way => line(alloc, (FAR, 0), (FAR, FAR)),
+        Between(low, high) => polygon(alloc, &sides(low, high), &[]),
+        Field => polygon(alloc, &square(0, 10), &[]),
+        Gapped => polygon(alloc, &square(0, 10), &square(2, 4)),
+        Pitted => polygon(alloc, &square(0, 10), &square(2, 8)),
+        Isle => polygon(alloc, &square(4, 6), &[]),
+        Diamond => polygon(alloc, &[(0, 0), (5, -5), (10, 0), (5, 5), (0, 0)], &[]),
+        Star => polygon(
+            alloc,
+            &[(0, 10), (6, -8), (-10, 3), (10, 3), (-6, -8), (0, 10)],
+            &[],
+        ),
+        Bow => polygon(alloc, &[(0, 0), (10, 10), (10, 0), (0, 10), (0, 0)], &[]),
+    }
+}
+
+/// What the narrower tests say of a pair that they speak of.
+fn narrow(a: &Geometry, b: &Geometry, other: Sketch) -> Option<bool> {
+    if let Between(low, high) = other {
+        let area = Box2::new(at(low)?, at(high)?).ok()?;
+        return Some(meets_box(a, &area));
+    }
     match (a, b) {
-        (Some(a), Some(b)) => Some((intersects(a, b), disjoint(b, a))),
+        (Geometry::Over(area), Geometry::At(p)) => Some(in_area(*p, area)),
+        (Geometry::Along(first), Geometry::Along(second)) => {
+            match (first.positions(), second.positions()) {
+                ([a, b], [c, d]) => Some(segments_meet(*a, *b, *c, *d)),
+                _ => None,
+            }
+        }
         _ => None,
     }
 }
 
-fn in_box(g: &Option<Geometry>, low: (i64, i64), high: (i64, i64)) -> Option<bool> {
-    let area = Box2::new(at(low)?, at(high)?).ok()?;
-    match g {
-        Some(g) => Some(meets_box(g, &area)),
-        None => None,
+/// Whether the shapes share a position, where all that is asked says the same.
+fn share(alloc: Global, one: Sketch, other: Sketch) -> Result<Option<bool>, AllocError> {
+    match (shape(alloc, one)?, shape(alloc, other)?) {
+        (Some(a), Some(b)) => {
+            let shared = intersects(&a, &b);
+            let agree = intersects(&b, &a) == shared
+                && disjoint(&a, &b) != shared
+                && disjoint(&b, &a) != shared
+                && narrow(&a, &b, other).unwrap_or(shared) == shared;
+            Ok(if agree { Some(shared) } else { None })
+        }
+        _ => Ok(None),
     }
 }
 
 #[test]
-fn shapes_share_by_table(rt: HostRuntime) -> Result<(), Fail> {
-    let alloc = rt.alloc();
-    let square: [(i64, i64); 5] = [(0, 0), (10, 0), (10, 10), (0, 10), (0, 0)];
-    let inner: [(i64, i64); 5] = [(3, 3), (7, 3), (7, 7), (3, 7), (3, 3)];
-    let rising: [(i64, i64); 2] = [(0, 0), (10, 10)];
-    let falling: [(i64, i64); 2] = [(0, 10), (10, 0)];
-    let under: [(i64, i64); 2] = [(6, 5), (10, 0)];
-    let from_corner: [(i64, i64); 3] = [(20, 15), (20, 20), (10, 10)];
-    let past_corner: [(i64, i64); 2] = [(11, 9), (9, 12)];
-    for (a, b, want) in [
-        (&rising as &[(i64, i64)], &falling as &[(i64, i64)], true),
-        (&rising, &under, false),
-        (&square, &from_corner, true),
-        (&square, &past_corner, false),
-        (&square, &inner, true),
-        (&inner, &square, true),
-        (&inner, &rising, true),
-        (&inner, &[(5, 5)], true),
-        (&inner, &[(2, 5)], false),
-        (&rising, &[(4, 4)], true),
-        (&rising, &[(4, 5)], false),
-        (&[(4, 4)], &[(4, 4)], true),
-        (&[(4, 4)], &[(4, 5)], false),
-    ] {
-        let shared = share(&shape(alloc, a)?, &shape(alloc, b)?);
-        assert_eq!(rt; shared, Some((want, !want)));
+fn shapes_by_table(rt: HostRuntime) -> Result<(), Fail> {
+    let rows = ROWS;
+    for (name, one, other, want) in rows {
+        assert_eq!(rt; share(rt.alloc(), one, other)?, Some(want), "{name}");
     }
-    Ok(())
-}
-
-#[test]
-fn holes_are_left_out(rt: HostRuntime) -> Result<(), Fail> {
-    let alloc = rt.alloc();
-    let land = field(alloc, 10, 2, 8)?;
-    let isle = shape(alloc, &[(4, 4), (6, 4), (6, 6), (4, 6), (4, 4)])?;
-    assert_eq!(rt; share(&land, &isle), Some((false, true)));
-    assert_eq!(rt;
-        share(&land, &shape(alloc, &[(5, 5)])?),
-        Some((false, true))
-    );
-    assert_eq!(rt;
-        share(&land, &shape(alloc, &[(2, 5)])?),
-        Some((true, false))
-    );
-    assert_eq!(rt;
-        share(&land, &shape(alloc, &[(5, 5), (8, 5)])?),
-        Some((true, false))
-    );
-    Ok(())
-}
-
-#[test]
-fn boxes_by_table(rt: HostRuntime) -> Result<(), Fail> {
-    let alloc = rt.alloc();
-    let field = field(alloc, 10, 2, 4)?;
-    assert_eq!(rt; in_box(&field, (10, 10), (12, 12)), Some(true));
-    assert_eq!(rt; in_box(&field, (3, 3), (3, 3)), Some(false));
-    assert_eq!(rt; in_box(&field, (2, 2), (4, 4)), Some(true));
-    assert_eq!(rt; in_box(&field, (-5, -5), (20, 20)), Some(true));
-    assert_eq!(rt; in_box(&field, (5, 5), (6, 6)), Some(true));
-    assert_eq!(rt; in_box(&field, (11, 0), (12, 10)), Some(false));
-    let way = shape(alloc, &[(FAR, 0), (FAR, FAR)])?;
-    assert_eq!(rt; in_box(&way, (FAR, 5), (FAR, 5)), Some(true));
-    assert_eq!(rt; in_box(&way, (FAR - 1, 5), (FAR - 1, 5)), Some(false));
     Ok(())
 }
