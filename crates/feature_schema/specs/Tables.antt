@@ -14,7 +14,8 @@ abbrev pub or_fault : {A : Type 0} → Option A → SchemaFault → Result A Sch
 or_fault None fault = Err fault
 or_fault (Some x) fault = Ok x
 
--- the table that the bytes of a file mean
+-- The table that the bytes of a file mean. Which table a text means, and which texts mean none, is as the kit's `toml`
+-- defines it; this project rests on that definition.
 unfoldable pub table_of : List ℕ → Result Members SchemaFault
 table_of bytes = if is_utf8 bytes then or_fault (parse_document bytes) NotToml else Err NotToml
 

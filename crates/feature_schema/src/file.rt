@@ -70,7 +70,8 @@ fn schema_at(alloc: Global, table: &Table) -> Result<Schema, SchemaFault>
     })
 }
 
-/// Reads the schema file of a service: a TOML 1.1 document.
+/// Reads the schema file of a service: a TOML 1.1 document. Which table its bytes mean, and which bytes are no document,
+/// is as the kit's `toml` defines it.
 ///
 /// The top keys are `title`, `address` and `namespace` (texts of 1 to 256 characters of XML without line feeds),
 /// `prefix` (a name that is not taken by the service's own documents and does not begin with `xml`), `srs` (1 to 8 such

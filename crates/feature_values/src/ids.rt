@@ -36,8 +36,10 @@ impl FeatureType {
     }
 }
 
+/// Reads a number of an identifier: from 1 on, of at most 64 bits (so up to 18,446,744,073,709,551,615), in decimal
+/// digits without a sign, white space or a leading zero. `None`: the text is none.
 #[tactic(auto, unfolding(crate::specs::Ids::number_of))]
-fn number_of(text: &str) -> Option<u64>
+pub fn read_number(text: &str) -> Option<u64>
     ensures { result ≡ number_of text.now }
 {
     let bytes = text.as_bytes();
@@ -57,7 +59,7 @@ pub fn read_rid(schema: &Schema, text: &str) -> Option<Rid>
     ensures { result ≡ rid_of schema.now text.now }
 {
     let (name, digits) = text.split_once('.')?;
-    let number = number_of(digits)?;
+    let number = read_number(digits)?;
     let kind = schema.type_named(name)?;
     Some(Rid { kind, number })
 }

@@ -13,7 +13,7 @@ mod value;
 pub use fault::ValueFault;
 pub use feature::{Feature, Rid};
 pub use fitting::fits;
-pub use ids::read_rid;
+pub use ids::{read_number, read_rid};
 pub use read::{read_as, read_value};
 pub use schema::{FeatureType, Property, Schema, ValueKind};
 pub use value::{Value, compare};

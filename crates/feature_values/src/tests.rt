@@ -1,5 +1,5 @@
 use super::*;
-use geom_core::{Geometry, Pos};
+use geom_core::{Geometry, Line, Polygon, Pos, Ring};
 use std::alloc::Global;
 use std::cmp::Ordering;
 use std::test::Fail;
@@ -29,6 +29,10 @@ fn schema(alloc: Global) -> Mem<Schema> {
         name: Text::of(alloc, "Field")?,
         properties: List::of(Vec::new(alloc)),
     })?;
+    schema_of(alloc, types)
+}
+
+fn schema_of(alloc: Global, types: Vec<FeatureType>) -> Mem<Schema> {
     let mut srs = Vec::new(alloc);
     srs.push(Text::of(alloc, "EPSG:25832")?)?;
     Ok(Schema {
@@ -64,17 +68,24 @@ fn words(alloc: Global, text: &str) -> Mem<Value> {
     Ok(Value::Words(Text::of(alloc, text)?))
 }
 
-const WHOLE: [(&str, Option<i64>); 22] = [
+// By XML Schema Part 2, 3.3.20 (long).
+const WHOLE: [(&str, Option<i64>); 28] = [
     ("0", Some(0)),
     ("-0", Some(0)),
+    ("+0", Some(0)),
+    ("-00", Some(0)),
     ("+1", Some(1)),
     ("-17", Some(-17)),
     ("007", Some(7)),
+    ("-007", Some(-7)),
+    ("+9223372036854775807", Some(9_223_372_036_854_775_807)),
+    ("+9223372036854775808", None),
     ("000000000000000000000000000012", Some(12)),
     ("9223372036854775807", Some(9_223_372_036_854_775_807)),
     ("9223372036854775808", None),
     ("-9223372036854775808", Some(-9_223_372_036_854_775_808)),
     ("-9223372036854775809", None),
+    ("18446744073709551616", None),
     (" \t\n5\n ", Some(5)),
     ("\r5", None),
     ("5\u{c}", None),
@@ -107,17 +118,88 @@ const TRUTH: [(&str, Option<bool>); 11] = [
 fn reads_numbers_and_truth_values(rt: HostRuntime) -> Result<(), Fail> {
     for (text, number) in WHOLE {
         let wanted = number.map(Value::Whole).ok_or(ValueFault::BadValue);
-        assert_eq!(rt; read_as(rt.alloc(), ValueKind::Whole, text), wanted);
+        assert_eq!(rt;
+            read_as(rt.alloc(), ValueKind::Whole, text),
+            wanted,
+            "{text}"
+        );
     }
     for (text, truth) in TRUTH {
         let wanted = truth.map(Value::Truth).ok_or(ValueFault::BadValue);
-        assert_eq!(rt; read_as(rt.alloc(), ValueKind::Truth, text), wanted);
+        assert_eq!(rt;
+            read_as(rt.alloc(), ValueKind::Truth, text),
+            wanted,
+            "{text}"
+        );
     }
     for kind in [ValueKind::Point, ValueKind::Line, ValueKind::Polygon] {
         assert_eq!(rt; read_as(rt.alloc(), kind, "1 2"), Err(ValueFault::BadValue));
     }
     Ok(())
 }
+
+const KINDS: [ValueKind; 6] = [
+    ValueKind::Words,
+    ValueKind::Whole,
+    ValueKind::Truth,
+    ValueKind::Point,
+    ValueKind::Line,
+    ValueKind::Polygon,
+];
+
+// The corners of a square, the first again at the end.
+fn corners(alloc: Global) -> Result<Vec<Pos>, Fail> {
+    let mut all = Vec::new(alloc);
+    for (x, y) in [(0, 0), (9, 0), (9, 9), (0, 9), (0, 0)] {
+        all.push(Pos::new(x, y)?)?;
+    }
+    Ok(all)
+}
+
+// A value of a kind.
+fn value_of(alloc: Global, kind: ValueKind) -> Result<Value, Fail> {
+    Ok(match kind {
+        ValueKind::Words => words(alloc, "abc")?,
+        ValueKind::Whole => Value::Whole(0),
+        ValueKind::Truth => Value::Truth(false),
+        ValueKind::Point => Value::Shape(Geometry::At(Pos { x: 0, y: 0 })),
+        ValueKind::Line => Value::Shape(Geometry::Along(Line::new(corners(alloc)?)?)),
+        ValueKind::Polygon => {
+            let shell = Ring::new(corners(alloc)?)?;
+            Value::Shape(Geometry::Over(Polygon::new(shell, Vec::new(alloc))?))
+        }
+    })
+}
+
+// What is said of a feature of one property and this value.
+fn judgement(alloc: Global, property: Property, value: Value) -> Mem<Result<(), ValueFault>> {
+    let mut properties = Vec::new(alloc);
+    properties.push(property)?;
+    let mut types = Vec::new(alloc);
+    types.push(FeatureType {
+        name: Text::of(alloc, "One")?,
+        properties: List::of(properties),
+    })?;
+    let mut values = Vec::new(alloc);
+    values.push(value)?;
+    let feature = Feature {
+        id: Rid { kind: 0, number: 1 },
+        values: List::of(values),
+    };
+    Ok(fits(&schema_of(alloc, types)?, &feature))
+}
+
+// Characters of one to four bytes, how many there are, and whether they are too many for 256.
+const LENGTHS: [(&str, usize, bool); 8] = [
+    ("a", 256, false),
+    ("a", 257, true),
+    ("\u{e4}", 256, false),
+    ("\u{e4}", 257, true),
+    ("\u{20ac}", 256, false),
+    ("\u{20ac}", 257, true),
+    ("\u{1f5fa}", 256, false),
+    ("\u{1f5fa}", 257, true),
+];
 
 #[test]
 fn reads_texts_of_at_most_so_many_characters(rt: HostRuntime) -> Result<(), Fail> {
@@ -131,6 +213,20 @@ fn reads_texts_of_at_most_so_many_characters(rt: HostRuntime) -> Result<(), Fail
             read_value(rt.alloc(), &label, text),
             Err(ValueFault::TooLong)
         );
+    }
+    for (character, count, is_longer) in LENGTHS {
+        let text = character.repeat(rt.alloc(), count)?;
+        let remark = property(rt.alloc(), "remark", ValueKind::Words, true, 256)?;
+        let read = read_value(rt.alloc(), &remark, text.as_str());
+        let said = judgement(rt.alloc(), remark, words(rt.alloc(), text.as_str())?)?;
+        if is_longer {
+            assert_eq!(rt; read, Err(ValueFault::TooLong), "{count} {character}");
+            assert_eq!(rt; said, Err(ValueFault::TooLong), "{count} {character}");
+        } else {
+            let wanted = words(rt.alloc(), text.as_str())?;
+            assert_eq!(rt; read, Ok(wanted), "{count} {character}");
+            assert_eq!(rt; said, Ok(()), "{count} {character}");
+        }
     }
     let size = property(rt.alloc(), "size", ValueKind::Whole, false, 1)?;
     assert_eq!(rt;
@@ -176,6 +272,36 @@ fn judges_features(rt: HostRuntime) -> Result<(), Fail> {
 }
 
 #[test]
+fn tells_kinds_apart(rt: HostRuntime) -> Result<(), Fail> {
+    let alloc = rt.alloc();
+    for kind in KINDS {
+        let optional = property(alloc, "p", kind, false, 1)?;
+        assert_eq!(rt;
+            judgement(alloc, optional, Value::Null)?,
+            Ok(()),
+            "{kind:?}"
+        );
+        let required = property(alloc, "p", kind, true, 1)?;
+        let missing = judgement(alloc, required, Value::Null)?;
+        assert_eq!(rt; missing, Err(ValueFault::Missing), "{kind:?}");
+        for other in KINDS {
+            let said = judgement(
+                alloc,
+                property(alloc, "p", kind, true, 3)?,
+                value_of(alloc, other)?,
+            )?;
+            let wanted = if kind == other {
+                Ok(())
+            } else {
+                Err(ValueFault::BadValue)
+            };
+            assert_eq!(rt; said, wanted, "{kind:?} {other:?}");
+        }
+    }
+    Ok(())
+}
+
+#[test]
 fn orders_values(rt: HostRuntime) -> Result<(), Fail> {
     let small = words(rt.alloc(), "Z")?;
     let great = words(rt.alloc(), "\u{e4}")?;
@@ -201,10 +327,25 @@ fn orders_values(rt: HostRuntime) -> Result<(), Fail> {
     for (a, b, order) in cases {
         assert_eq!(rt; compare(a, b), order);
     }
+    for kind in KINDS {
+        for other in KINDS {
+            let (a, b) = (value_of(rt.alloc(), kind)?, value_of(rt.alloc(), other)?);
+            let has_order = match kind {
+                ValueKind::Words | ValueKind::Whole | ValueKind::Truth => kind == other,
+                _ => false,
+            };
+            let wanted = if has_order {
+                Some(Ordering::Equal)
+            } else {
+                None
+            };
+            assert_eq!(rt; compare(&a, &b), wanted, "{kind:?} {other:?}");
+        }
+    }
     Ok(())
 }
 
-const IDS: [(&str, Option<(u32, u64)>); 16] = [
+const IDS: [(&str, Option<(u32, u64)>); 18] = [
     ("Mark.1", Some((0, 1))),
     ("Field.20", Some((1, 20))),
     (
@@ -213,7 +354,9 @@ const IDS: [(&str, Option<(u32, u64)>); 16] = [
     ),
     ("Mark.18446744073709551616", None),
     ("Mark.0", None),
+    ("Mark.00", None),
     ("Mark.01", None),
+    ("Mark.\u{661}", None),
     ("Mark.+1", None),
     ("Mark.-1", None),
     ("Mark. 1", None),
@@ -231,7 +374,7 @@ fn reads_identifiers(rt: HostRuntime) -> Result<(), Fail> {
     let schema = schema(rt.alloc())?;
     for (text, id) in IDS {
         let wanted = id.map(|(kind, number)| Rid { kind, number });
-        assert_eq!(rt; read_rid(&schema, text), wanted);
+        assert_eq!(rt; read_rid(&schema, text), wanted, "{text}");
     }
     assert_eq!(rt; schema.type_named("Field"), Some(1));
     for of_type in schema.types.items() {

@@ -1,5 +1,5 @@
 use Rattle.feature_values.proofs.Numerals.{parse_number_is}
-use Rattle.feature_values.proofs.ids.number_of.Goals as goal
+use Rattle.feature_values.proofs.ids.read_number.Goals as goal
 
 pub returns : goal.returns
 returns c =
