@@ -27,8 +27,9 @@ use wfs_ends::{List, Mem};
 ///   feature does.
 /// - `Meets`: the property is a geometry that shares a point with the shape. `Apart`: it is not so, also where it is null.
 ///
-/// A property that the feature has not, a parameter and a comparison that `check` does not allow count as null, so the
-/// answer is stated for every filter. Each call is one step. Memory is taken only to fold case.
+/// A property that the feature has not and a parameter count as null, so the answer is stated for every filter, also for
+/// one that `check` does not allow. Values of two kinds, and geometries, do not stand to each other in any way. Each call
+/// is one step. Memory is taken only to fold case, so `OutOfMemory` comes only where some `Compare` has `fold`.
 pub fn truth<L: Ledger>(
     alloc: Global,
     filter: &Filter,

@@ -18,8 +18,7 @@ pub trait FeatureView {
 
     /// The feature with this identifier.
     fn get(&self, id: Rid) -> Option<&Feature>
-        ensures value { option_copied result ≡ feature_at id (features self.now) }
-        ensures order { IsInOrder (features self.now) };
+        ensures { option_copied result ≡ feature_at id (features self.now) };
 
     /// The first feature in default order, or the first behind this identifier, which need not be there.
     fn next(&self, after: Option<Rid>) -> Option<&Feature>
