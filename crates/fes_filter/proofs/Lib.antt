@@ -1,0 +1,3 @@
+pub mod Likes
+pub mod Parts
+pub mod Verdicts

@@ -1,0 +1,112 @@
+//! Kinds of values, and which operators take them.
+
+ghost use Rattle.std.specs.Prelude.{◌≡◌};
+ghost use Rattle.std.specs.Option.{option_copied};
+ghost use Rattle.feature_values.specs.Fits.{is_of_kind};
+ghost use Rattle.fes_filter.specs.Check.{wanted, kind_of, is_same, is_words, is_shape, is_equality, is_comparable, known, is_suited};
+
+use crate::expr::{By, Expr};
+use crate::fault::FilterFault;
+use feature_values::{FeatureType, Value, ValueKind};
+use geom_core::Geometry;
+
+/// What has to hold, or else the fault.
+#[tactic(auto, unfolding(crate::specs::Check::wanted))]
+pub fn wanted(holds: bool, fault: FilterFault) -> Result<(), FilterFault>
+    ensures { result ≡ wanted holds fault }
+{
+    if holds { Ok(()) } else { Err(fault) }
+}
+
+/// The kind of a property of the type.
+pub fn kind_of(of_type: Option<&FeatureType>, property: u32) -> Result<ValueKind, FilterFault>
+    ensures { result ≡ kind_of (option_copied of_type.entry) property }
+{
+    let Some(of_type) = of_type else {
+        return Err(FilterFault::Unknown);
+    };
+    match of_type.properties.items().get(property as usize) {
+        None => Err(FilterFault::Unknown),
+        Some(property) => Ok(property.kind),
+    }
+}
+
+fn is_same(a: ValueKind, b: ValueKind) -> bool
+    ensures { result ≡ is_same a b }
+{
+    a == b
+}
+
+pub fn is_words(kind: ValueKind) -> bool
+    ensures { result ≡ is_words kind }
+{
+    matches!(kind, ValueKind::Words)
+}
+
+pub fn is_shape(kind: ValueKind) -> bool
+    ensures { result ≡ is_shape kind }
+{
+    matches!(
+        kind,
+        ValueKind::Point | ValueKind::Line | ValueKind::Polygon
+    )
+}
+
+pub fn is_equality(by: By) -> bool
+    ensures { result ≡ is_equality by }
+{
+    matches!(by, By::Equal | By::NotEqual)
+}
+
+/// Whether values of a kind are compared so.
+pub fn is_comparable(by: By, kind: ValueKind) -> bool
+    ensures { result ≡ is_comparable by kind }
+{
+    match kind {
+        ValueKind::Words | ValueKind::Whole => true,
+        ValueKind::Truth => is_equality(by),
+        ValueKind::Point | ValueKind::Line | ValueKind::Polygon => false,
+    }
+}
+
+#[tactic(auto, unfolding(feature_values::specs::Fits::is_of_kind))]
+fn is_of_kind(value: &Value, kind: ValueKind) -> bool
+    ensures { result ≡ is_of_kind value.now kind }
+{
+    match (value, kind) {
+        (Value::Words(_), ValueKind::Words) => true,
+        (Value::Whole(_), ValueKind::Whole) => true,
+        (Value::Truth(_), ValueKind::Truth) => true,
+        (Value::Shape(Geometry::At(_)), ValueKind::Point) => true,
+        (Value::Shape(Geometry::Along(_)), ValueKind::Line) => true,
+        (Value::Shape(Geometry::Over(_)), ValueKind::Polygon) => true,
+        _ => false,
+    }
+}
+
+/// The type has each property that an expression names.
+pub fn known(of_type: Option<&FeatureType>, expr: &Expr) -> Result<(), FilterFault>
+    ensures { result ≡ known (option_copied of_type.entry) expr.now }
+{
+    match expr {
+        Expr::Property(property) => {
+            kind_of(of_type, *property)?;
+            Ok(())
+        }
+        Expr::Literal(_) | Expr::Parameter(_) => Ok(()),
+    }
+}
+
+/// Whether an expression is of a kind. A parameter is of any.
+pub fn is_suited(of_type: Option<&FeatureType>, kind: ValueKind, expr: &Expr) -> bool
+    ensures { result ≡ is_suited (option_copied of_type.entry) kind expr.now }
+{
+    match expr {
+        Expr::Property(property) => match kind_of(of_type, *property) {
+            Err(_) => false,
+            Ok(other) => is_same(kind, other),
+        },
+        Expr::Literal(value) => is_of_kind(value, kind),
+        Expr::Parameter(_) => true,
+    }
+}

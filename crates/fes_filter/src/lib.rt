@@ -1,0 +1,35 @@
+//! Filters of features: what they are made of, when one is true of a feature, and which ones a feature type allows.
+//!
+//! `truth` says whether a filter is true of a feature, and `check` what is wrong first with a filter for a feature type.
+//! A `FeatureView` is what filters are put to: features in their default order.
+#![tactic(auto)]
+
+mod checking;
+mod compare;
+mod expr;
+mod fault;
+mod filter;
+mod ids;
+mod kinds;
+mod like;
+mod pattern;
+mod query;
+mod spatial;
+mod steps;
+mod truths;
+mod values;
+mod view;
+
+pub use checking::check;
+pub use expr::{By, Expr};
+pub use fault::FilterFault;
+pub use filter::Filter;
+pub use ids::IdRef;
+pub use pattern::LikePart;
+pub use query::{Query, SortKey};
+pub use steps::Steps;
+pub use truths::truth;
+pub use view::FeatureView;
+
+#[cfg(test)]
+mod tests;

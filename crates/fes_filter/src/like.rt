@@ -1,0 +1,134 @@
+//! Texts that are like a pattern.
+
+ghost use Rattle.std.specs.Prelude.{◌≡◌, ◌<◌, ◌+◌, [], ◌∷◌, length, drop, chars, Some, MatchOption, option_map, IfSome};
+ghost use Rattle.std.specs.Option.{option_copied};
+ghost use Rattle.fes_filter.specs.Like.{is_like, some_end};
+ghost use Rattle.fes_filter.specs.LikeFront.{is_many, after_part, front_of, shown, IsShorter};
+ghost use Rattle.fes_filter.specs.Truth.{passes, is_text_like};
+
+use crate::pattern::LikePart;
+use feature_values::Value;
+
+/// The first character, and the text behind it.
+fn split_first(text: &str) -> Option<(char, &str)>
+    ensures { MatchOption result ((chars text.now ≡ []) × (text.now ≡ [])) (λ (c, rest). (chars text.now ≡ c ∷ chars rest.now) × (length rest.now < length text.now)) }
+{
+    let mut chars = text.chars();
+    match chars.next() {
+        Some(c) => Some((c, chars.as_str())),
+        None => None,
+    }
+}
+
+/// The text behind its first character, where the part stands for this one character.
+fn after_part(part: LikePart, text: &str) -> Option<&str>
+    ensures value { option_map (λ rest. chars rest.now) result ≡ after_part part (chars text.now) }
+    ensures shorter { IfSome result (λ rest. length rest.now < length text.now) }
+{
+    let (c, rest) = split_first(text)?;
+    match part {
+        LikePart::Exactly(d) if c == d => Some(rest),
+        LikePart::One => Some(rest),
+        LikePart::Exactly(_) | LikePart::Many => None,
+    }
+}
+
+/// What comes of the parts before the first `Many` of a pattern at the start of a text.
+enum Front<'a> {
+    /// A part does not stand for its character, or one of the two is too short.
+    Unlike,
+    /// All parts stand for the whole text.
+    Whole,
+    /// The parts behind the first `Many`, and the text that is left there.
+    Rest(&'a [LikePart], &'a str),
+}
+
+fn is_many(part: LikePart) -> bool
+    ensures { result ≡ is_many part }
+{
+    matches!(part, LikePart::Many)
+}
+
+/// The parts behind one, and the text that is left there.
+#[tactic(auto, using(std::proofs::lemmas::List::take_rest))]
+fn rest_of<'a>(pattern: &'a [LikePart], i: usize, text: &'a str) -> Front<'a>
+    requires { i < length pattern.now }
+    ensures value { shown result ≡ Some (Some (drop (i + 1) pattern.now, chars text.now)) }
+    ensures shorter { IsShorter (length pattern.now + length text.now) result }
+{
+    Front::Rest(&pattern[i + 1..], text)
+}
+
+/// What comes of no parts: a text has to be empty.
+#[tactic(auto, unfolding(crate::specs::LikeFront::front_of))]
+fn end_of<'a>(text: &str) -> Front<'a>
+    ensures value { shown result ≡ front_of [] (chars text.now) }
+    ensures shorter { IsShorter (length text.now) result }
+{
+    match split_first(text) {
+        None => Front::Whole,
+        Some(_) => Front::Unlike,
+    }
+}
+
+/// Puts the parts before the first `Many` to the first characters of a text.
+fn front_of<'a>(pattern: &'a [LikePart], text: &'a str) -> Front<'a>
+    ensures value { shown result ≡ front_of pattern.now (chars text.now) }
+    ensures shorter { IsShorter (length pattern.now + length text.now) result }
+{
+    let mut rest = text;
+    for i in 0..pattern.len() {
+        let part = pattern[i];
+        if is_many(part) {
+            return rest_of(pattern, i, rest);
+        }
+        match after_part(part, rest) {
+            None => return Front::Unlike,
+            Some(left) => rest = left,
+        }
+    }
+    end_of(rest)
+}
+
+/// Whether some end of the text is like the pattern. The first place at which the parts up to the next `Many` stand for
+/// the characters there is as good as any later one, so it never goes back.
+fn has_end_like(pattern: &[LikePart], text: &str) -> bool
+    ensures { result ≡ some_end (is_like pattern.now) (chars text.now) }
+{
+    let mut parts = pattern;
+    let mut rest = text;
+    loop {
+        match front_of(parts, rest) {
+            Front::Whole => return true,
+            Front::Rest(behind, left) => {
+                parts = behind;
+                rest = left;
+            }
+            Front::Unlike => match split_first(rest) {
+                None => return false,
+                Some((_, left)) => rest = left,
+            },
+        }
+    }
+}
+
+/// Whether a text is like a pattern. It takes at most as many steps as the product of the two lengths, and no memory.
+fn is_like(pattern: &[LikePart], text: &str) -> bool
+    ensures { result ≡ is_like pattern.now (chars text.now) }
+{
+    match front_of(pattern, text) {
+        Front::Unlike => false,
+        Front::Whole => true,
+        Front::Rest(behind, left) => has_end_like(behind, left),
+    }
+}
+
+/// Whether there is a text, and it is like the pattern.
+pub fn is_text_like(value: Option<&Value>, pattern: &[LikePart]) -> bool
+    ensures { result ≡ passes (is_text_like pattern.now) (option_copied value.entry) }
+{
+    match value {
+        Some(Value::Words(text)) => is_like(pattern, text.as_str()),
+        _ => false,
+    }
+}
