@@ -1,0 +1,5 @@
+pub mod Cuts
+pub mod Digits
+pub mod Loops
+pub mod Near
+pub mod Pairs
