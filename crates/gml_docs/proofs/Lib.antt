@@ -3,3 +3,4 @@ pub mod Digits
 pub mod Loops
 pub mod Near
 pub mod Pairs
+pub mod Pieces

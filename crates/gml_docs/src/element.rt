@@ -8,7 +8,7 @@ use doc_tree::{Attribute, Element, QName};
 use wfs_ends::{List, Text};
 
 // The namespace of GML 3.2.
-const GML: &str = "http://www.opengis.net/gml/3.2";
+pub(crate) const GML: &str = "http://www.opengis.net/gml/3.2";
 
 fn is_name(name: &QName, space: &str, local: &str) -> bool
     ensures { result ≡ is_name space.now local.now name.now }

@@ -8,8 +8,10 @@ mod numbers;
 mod path;
 mod positions;
 mod read;
+mod tree;
 mod words;
 
 pub use envelope::read_envelope;
 pub use fault::GmlFault;
 pub use read::read_geometry;
+pub use tree::geometry_tree;
