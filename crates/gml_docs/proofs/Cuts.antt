@@ -15,7 +15,7 @@ unfolding words
 no_words = refl
 
 -- a space in front says nothing
-space_first : (b : ℕ) (bs : List ℕ) → is_space b ≡ true → words (b ∷ bs) ≡ words bs
+pub space_first : (b : ℕ) (bs : List ℕ) → is_space b ≡ true → words (b ∷ bs) ≡ words bs
 unfolding words
 space_first b bs e = ap (filter is_word) (slice_split-cons_yes is_space b bs e)
 

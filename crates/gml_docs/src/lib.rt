@@ -4,6 +4,7 @@
 mod element;
 mod envelope;
 mod fault;
+mod laws;
 mod numbers;
 mod path;
 mod positions;
@@ -13,5 +14,6 @@ mod words;
 
 pub use envelope::read_envelope;
 pub use fault::GmlFault;
+pub use laws::round_trip;
 pub use read::read_geometry;
 pub use tree::geometry_tree;
