@@ -1,0 +1,9 @@
+pub mod Cuts
+pub mod Decimals
+pub mod Digits
+pub mod Loops
+pub mod Near
+pub mod Pairs
+pub mod Pieces
+pub mod Reading
+pub mod Texts

@@ -1,0 +1,4 @@
+pub mod Elements
+pub mod Numbers
+pub mod RoundTrip
+pub mod Written

@@ -1,0 +1,19 @@
+//! Geometries as elements of GML 3.2.1 (OGC 07-036): how they are read, and how they are written.
+#![tactic(auto)]
+
+mod element;
+mod envelope;
+mod fault;
+mod laws;
+mod numbers;
+mod path;
+mod positions;
+mod read;
+mod tree;
+mod words;
+
+pub use envelope::read_envelope;
+pub use fault::GmlFault;
+pub use laws::round_trip;
+pub use read::read_geometry;
+pub use tree::geometry_tree;
