@@ -17,3 +17,6 @@ pub use fault::GmlFault;
 pub use laws::round_trip;
 pub use read::read_geometry;
 pub use tree::geometry_tree;
+
+#[cfg(test)]
+mod tests;
