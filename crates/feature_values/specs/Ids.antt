@@ -1,8 +1,8 @@
 -- The identifiers of features, and the numbers of types and properties by their names. That an identifier is the type's
 -- name, a dot and a number is this project's own.
-use Rattle.std.specs.Prelude.{ℕ, ◌^◌, Bool, if◌then◌else◌, ◌==◌, nat_lt, List, slice_index, option_map, Option, Some, None}
+use Rattle.std.specs.Prelude.{ℕ, ◌^◌, Bool, if◌then◌else◌, ◌==◌, nat_lt, List, length, slice_index, option_map, Option, Some, None}
 use Rattle.std.specs.Option.{option_and_then}
-use Rattle.std.specs.List.{position_from, before_first, after_first}
+use Rattle.std.specs.List.{position_from, position_or_len, before_first, after_first}
 use Rattle.std.specs.Str.{bytes_eq}
 use Rattle.feature_values.specs.declared.schema.FeatureType.{FeatureType}
 use Rattle.feature_values.specs.declared.schema.Schema.{Schema}
@@ -20,6 +20,13 @@ type_named schema name = option_and_then of_32_bits (position_from (λ t. bytes_
 -- the number of the first property with this name
 unfoldable pub property_named : FeatureType → List ℕ → Option ℕ
 property_named of_type name = option_and_then of_32_bits (position_from (λ p. bytes_eq p.name name) 0 of_type.properties)
+
+abbrev pub is_colon : ℕ → Bool
+is_colon b = b == 58
+
+-- a name behind its prefix: what stands after the first colon, or all where there is none
+unfoldable pub without_prefix : List ℕ → List ℕ
+without_prefix name = if position_or_len is_colon name == length name then name else after_first is_colon name
 
 -- a number of 64 bits from 1 on, in decimal digits without a leading 0
 unfoldable pub number_of : List ℕ → Option ℕ

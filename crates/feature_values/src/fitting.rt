@@ -8,8 +8,9 @@ use crate::schema::{FeatureType, Property, Schema, ValueKind};
 use crate::value::Value;
 use geom_core::Geometry;
 
+/// Whether a value is of a kind. A null is of none.
 #[tactic(auto, unfolding(crate::specs::Fits::is_of_kind))]
-fn is_of_kind(value: &Value, kind: ValueKind) -> bool
+pub fn is_of_kind(value: &Value, kind: ValueKind) -> bool
     ensures { result ≡ is_of_kind value.now kind }
 {
     match (value, kind) {

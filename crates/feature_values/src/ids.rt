@@ -1,5 +1,5 @@
 ghost use Rattle.std.specs.Prelude.{◌≡◌};
-ghost use Rattle.feature_values.specs.Ids.{type_named, property_named, number_of, rid_of};
+ghost use Rattle.feature_values.specs.Ids.{type_named, property_named, without_prefix, number_of, rid_of};
 
 use crate::feature::Rid;
 use crate::schema::{FeatureType, Schema};
@@ -33,6 +33,18 @@ impl FeatureType {
             }
         }
         None
+    }
+}
+
+/// The name of a type or a property behind its prefix: what stands after the first colon, or all where there is none. The
+/// prefix is not judged.
+#[tactic(auto, unfolding(crate::specs::Ids::without_prefix))]
+pub fn without_prefix(name: &str) -> &str
+    ensures { result.now ≡ without_prefix name.now }
+{
+    match name.split_once(':') {
+        None => name,
+        Some((_, local)) => local,
     }
 }
 

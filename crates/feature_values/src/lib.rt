@@ -12,8 +12,8 @@ mod value;
 
 pub use fault::ValueFault;
 pub use feature::{Feature, Rid};
-pub use fitting::fits;
-pub use ids::{read_number, read_rid};
+pub use fitting::{fits, is_of_kind};
+pub use ids::{read_number, read_rid, without_prefix};
 pub use read::{read_as, read_value};
 pub use schema::{FeatureType, Property, Schema, ValueKind};
 pub use value::{Value, compare};

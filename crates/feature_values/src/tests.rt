@@ -376,6 +376,15 @@ fn reads_identifiers(rt: HostRuntime) -> Result<(), Fail> {
         let wanted = id.map(|(kind, number)| Rid { kind, number });
         assert_eq!(rt; read_rid(&schema, text), wanted, "{text}");
     }
+    for (name, local) in [
+        ("m:Mark", "Mark"),
+        ("Mark", "Mark"),
+        (":Mark", "Mark"),
+        ("a:b:c", "b:c"),
+        ("m:", ""),
+    ] {
+        assert_eq!(rt; without_prefix(name), local, "{name}");
+    }
     assert_eq!(rt; schema.type_named("Field"), Some(1));
     for of_type in schema.types.items() {
         assert_eq!(rt; of_type.property_named("Mark"), None);

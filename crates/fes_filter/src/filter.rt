@@ -9,7 +9,7 @@ use wfs_ends::{Boxed, List, Mem};
 
 /// A filter (OGC 09-026r2, clause 7): an operator with its parts. Properties are named by their index in the feature
 /// type. `truth` says what each operator means.
-#[derive(Debug, Drop)]
+#[derive(Debug, PartialEq, Eq, Drop)]
 pub enum Filter {
     /// And.
     Both(List<Filter>),

@@ -2,13 +2,11 @@
 
 ghost use Rattle.std.specs.Prelude.{◌≡◌};
 ghost use Rattle.std.specs.Option.{option_copied};
-ghost use Rattle.feature_values.specs.Fits.{is_of_kind};
 ghost use Rattle.fes_filter.specs.Check.{wanted, kind_of, is_same, is_words, is_shape, is_equality, is_comparable, known, is_suited};
 
 use crate::expr::{By, Expr};
 use crate::fault::FilterFault;
-use feature_values::{FeatureType, Value, ValueKind};
-use geom_core::Geometry;
+use feature_values::{FeatureType, ValueKind, is_of_kind};
 
 /// What has to hold, or else the fault.
 #[tactic(auto, unfolding(crate::specs::Check::wanted))]
@@ -66,21 +64,6 @@ pub fn is_comparable(by: By, kind: ValueKind) -> bool
         ValueKind::Words | ValueKind::Whole => true,
         ValueKind::Truth => is_equality(by),
         ValueKind::Point | ValueKind::Line | ValueKind::Polygon => false,
-    }
-}
-
-#[tactic(auto, unfolding(feature_values::specs::Fits::is_of_kind))]
-fn is_of_kind(value: &Value, kind: ValueKind) -> bool
-    ensures { result ≡ is_of_kind value.now kind }
-{
-    match (value, kind) {
-        (Value::Words(_), ValueKind::Words) => true,
-        (Value::Whole(_), ValueKind::Whole) => true,
-        (Value::Truth(_), ValueKind::Truth) => true,
-        (Value::Shape(Geometry::At(_)), ValueKind::Point) => true,
-        (Value::Shape(Geometry::Along(_)), ValueKind::Line) => true,
-        (Value::Shape(Geometry::Over(_)), ValueKind::Polygon) => true,
-        _ => false,
     }
 }
 

@@ -13,7 +13,7 @@ pub struct SortKey {
 }
 
 /// A query: the features of a type, or of all types, of which a filter is true, in an order.
-#[derive(Debug, Drop)]
+#[derive(Debug, PartialEq, Eq, Drop)]
 pub struct Query {
     /// The number of the type; `None` stands for all types.
     pub kind: Option<u32>,
