@@ -82,8 +82,8 @@ fn put_position<S: Sink>(sink: &mut S, failed: bool, p: Pos) -> bool
 fn put_next<S: Sink>(sink: &mut S, failed: bool, p: Pos) -> bool
     ensures { Writes (record { shown = S.sink sink.old; failed = failed }) (next_text p) (record { shown = S.sink sink.new; failed = result }) }
 {
-    let failed = put_on(sink, failed, b" ");
-    put_position(sink, failed, p)
+    let begun = put_on(sink, failed, b" ");
+    put_position(sink, begun, p)
 }
 
 fn put_rest<S: Sink>(sink: &mut S, failed: bool, positions: &[Pos]) -> bool

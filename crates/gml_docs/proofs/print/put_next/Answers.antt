@@ -4,4 +4,4 @@ use Rattle.gml_docs.proofs.print.put_next.Goals as goal
 
 pub returns : goal.returns
 unfolding next_text
-returns g c = wrote_both _ _ _ _ _ c.put_on-failed.ensures c.put_position.ensures
+returns g c = wrote_both _ _ _ _ _ c.put_on-begun.ensures c.put_position.ensures
