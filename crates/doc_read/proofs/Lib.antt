@@ -17,3 +17,4 @@ pub mod Settings
 pub mod Documents
 pub mod Enough
 pub mod Bytes
+pub mod Markup

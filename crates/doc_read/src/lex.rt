@@ -9,6 +9,7 @@ ghost use Rattle.doc_read.specs.Lex.{name_at, spelled_at, spelled};
 
 use crate::fault::DocFault;
 use crate::front::{before, first};
+use memchr::memchr2;
 
 /// A set of characters.
 #[derive(Clone, Copy)]
@@ -61,8 +62,19 @@ fn after_one(class: Class, text: &str) -> Option<&str>
     }
 }
 
-/// What comes after the longest front of the class.
-fn skip(class: Class, text: &str) -> &str
+/// What comes after the longest front without markup, which is found by its bytes.
+fn skip_text(text: &str) -> &str
+    ensures chars { chars result.now ≡ (split_front Class.Text (chars text.now)).1 }
+    ensures rest { IsRest text.now result.now }
+{
+    match memchr2(b'<', b'&', text.as_bytes()) {
+        Some(place) => text.split_at(place).1,
+        None => "",
+    }
+}
+
+/// What comes after the longest front of the class, character by character.
+fn skip_each(class: Class, text: &str) -> &str
     ensures chars { chars result.now ≡ (split_front class (chars text.now)).1 }
     ensures rest { IsRest text.now result.now }
 {
@@ -71,6 +83,17 @@ fn skip(class: Class, text: &str) -> &str
         rest = after;
     }
     rest
+}
+
+/// What comes after the longest front of the class.
+fn skip(class: Class, text: &str) -> &str
+    ensures chars { chars result.now ≡ (split_front class (chars text.now)).1 }
+    ensures rest { IsRest text.now result.now }
+{
+    match class {
+        Class::Text => skip_text(text),
+        _ => skip_each(class, text),
+    }
 }
 
 /// The longest front of the class, and what comes after it.

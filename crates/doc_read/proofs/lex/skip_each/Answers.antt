@@ -3,7 +3,7 @@ use Rattle.std.specs.Prelude.{encode_utf8}
 use Rattle.std.specs.Str.{chars}
 use Rattle.doc_read.proofs.Fronts.{skip_turn, skip_end}
 use Rattle.doc_read.proofs.Rests.{rest_after}
-use Rattle.doc_read.proofs.lex.skip.Goals as goal
+use Rattle.doc_read.proofs.lex.skip_each.Goals as goal
 
 pub loop-after-preserved : goal.loop-after-preserved
 loop-after-preserved c =

@@ -4,7 +4,7 @@ use denote.Shadow.{shadow}
 use denote.Text.{Utf8}
 use Rattle.doc_read.specs.Chars.{split_front}
 use Rattle.doc_read.specs.Rest.{IsRest}
-use Rattle.doc_read.proofs.lex.skip.Given as goal
+use Rattle.doc_read.proofs.lex.skip_each.Given as goal
 
 abbrev pub invariant-loop-after : goal.invariant-loop-after
 invariant-loop-after l = record {
