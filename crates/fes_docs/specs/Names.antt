@@ -83,6 +83,10 @@ unfoldable pub no_more : List Element → Result (Unit {0}) FilterDocFault
 no_more [] = Ok tt
 no_more (e ∷ es) = Err (Shape (local_of e))
 
+-- a value that was read, where no element stands behind it
+abbrev pub and_no_more : {A : Type 0} → A → List Element → Result A FilterDocFault
+and_no_more found rest = no_more rest >>= λ _. Ok found
+
 -- an element of text alone, without attributes
 unfoldable pub plain : Element → Result (Unit {0}) FilterDocFault
 plain e = do

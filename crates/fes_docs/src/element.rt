@@ -4,7 +4,7 @@ ghost use Rattle.std.specs.List.{list_any};
 ghost use Rattle.std.specs.Str.{bytes_eq};
 ghost use Rattle.wfs_ends.specs.Read.{GivesBut};
 ghost use Rattle.gml_docs.specs.Elements.{is_name, is_among};
-ghost use Rattle.fes_docs.specs.Names.{is_fes, value_in, value_of, is_other, first_name, next_other, first_other, no_others, named, no_more, plain, missing};
+ghost use Rattle.fes_docs.specs.Names.{is_fes, value_in, value_of, is_other, first_name, next_other, first_other, no_others, named, no_more, and_no_more, plain, missing};
 ghost use Rattle.fes_docs.specs.declared.fault.FilterDocFault.TheVariants.{OutOfMemory};
 
 use crate::fault::{FilterDocFault, misplaced, no_operator};
@@ -150,6 +150,20 @@ pub(crate) fn no_more(alloc: Global, elements: &[Element]) -> Result<(), FilterD
     match elements {
         [] => Ok(()),
         [first, ..] => Err(missing(alloc, first)),
+    }
+}
+
+// A value that was read, where no element stands behind it.
+pub(crate) fn and_no_more<T: Drop>(
+    alloc: Global,
+    found: T,
+    elements: &[Element],
+) -> Result<T, FilterDocFault>
+    ensures { GivesBut OutOfMemory (λ x. x) result (and_no_more found elements.now) }
+{
+    match no_more(alloc, elements) {
+        Ok(()) => Ok(found),
+        Err(fault) => Err(fault),
     }
 }
 
