@@ -14,3 +14,6 @@ mod uses;
 
 pub use fault::FilterDocFault;
 pub use read::{read_filter, read_filter_in};
+
+#[cfg(test)]
+mod tests;
