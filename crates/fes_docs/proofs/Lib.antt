@@ -1,0 +1,5 @@
+pub mod Edges
+pub mod Names
+pub mod Patterns
+pub mod Readings
+pub mod Steps
