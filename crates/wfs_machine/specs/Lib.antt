@@ -2,3 +2,4 @@ pub mod History
 pub mod Read
 pub mod State
 pub mod Step
+pub mod Terms

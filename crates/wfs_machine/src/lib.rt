@@ -7,9 +7,11 @@ mod link;
 mod plain;
 mod reply;
 mod request;
+mod terms;
 
 pub use fault::AskFault;
 pub use link::page_link;
 pub use plain::Plain;
 pub use reply::{Made, Refusal, Reply};
 pub use request::{Action, Asked, Entry, Present, Request};
+pub use terms::{is_format, is_listed, is_version, read_count, refused};
