@@ -1,13 +1,12 @@
 -- The order of the features that a query selects (OGC 09-026r2, section 7.12: SortBy). Where nulls stand, that texts are ordered by
 -- their bytes, and that ties end in the default order, is this project's own.
 use Rattle.std.specs.Prelude.{ℕ, Bool, true, false, if◌then◌else◌, List, [], ◌∷◌, Option, Some, None, get_or}
-use Rattle.std.specs.Option.{option_or}
 use Rattle.std.specs.declared.cmp.Ordering.{Ordering}
 use Rattle.std.specs.declared.cmp.Ordering.TheVariants.{Less, Equal, Greater}
 use Rattle.std.specs.Ordering.{ordering_reverse, ordering_then, nat_cmp, is_gt}
 use Rattle.feature_values.specs.Order.{order_of}
 use Rattle.feature_values.specs.declared.value.Value.{Value}
-use Rattle.feature_values.specs.declared.value.Value.TheVariants.{Null}
+use Rattle.feature_values.specs.declared.value.Value.TheVariants.{Null, Words, Whole, Truth, Shape}
 use Rattle.feature_values.specs.declared.feature.Feature.{Feature}
 use Rattle.feature_values.specs.declared.feature.Rid.{Rid}
 use Rattle.fes_filter.specs.declared.query.SortKey.{SortKey}
@@ -18,14 +17,19 @@ abbrev pub or_equal : Option Ordering → Ordering
 or_equal None = Equal
 or_equal (Some order) = order
 
--- Ascending order of values: a null comes first. Geometries and values of two kinds have no order.
-unfoldable pub value_order : Value → Value → Ordering
-value_order Null Null = Equal
-value_order Null b = Less
-value_order a Null = Greater
-value_order a b = or_equal (order_of a b)
+-- where the kinds of values stand; all values of a property are of one kind, or nulls
+abbrev pub kind_place : Value → ℕ
+kind_place Null = 0
+kind_place (Words text) = 1
+kind_place (Whole number) = 2
+kind_place (Truth truth) = 3
+kind_place (Shape shape) = 4
 
--- the same, where a property that is not there counts as a null
+-- Ascending order of values: a null comes first. Values of one kind are ordered as they compare; geometries do not.
+unfoldable pub value_order : Value → Value → Ordering
+value_order a b = ordering_then (nat_cmp (kind_place a) (kind_place b)) (or_equal (order_of a b))
+
+-- a property that is not there counts as a null
 abbrev pub or_null : Option Value → Value
 or_null None = Null
 or_null (Some value) = value
