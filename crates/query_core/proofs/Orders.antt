@@ -1,5 +1,5 @@
 -- The order of features is total: of any two one is first, or they are equal, and this does not depend on others.
-use Rattle.std.proofs.Common.{◌≡◌, ℕ, Bool, true, false, cond, List, [], ◌∷◌, ℤ, pos, refl, sym, ap, ◌∙◌, arith}
+use Rattle.std.proofs.Common.{◌≡◌, ℕ, Bool, true, false, cond, List, [], ◌∷◌, ℤ, pos, refl, sym, ap, ◌∙◌}
 use Rattle.std.specs.Cmp.{IsTotalOrder}
 use Rattle.std.specs.Cmp.Lexicographic.{slice_cmp}
 use Rattle.std.specs.declared.cmp.Ordering.{Ordering}
@@ -9,7 +9,6 @@ use Rattle.std.proofs.lemmas.Cmp.{nat_cmp_total, int_cmp_total, nat_list_cmp_tot
 use Rattle.feature_values.specs.declared.value.Value.{Value}
 use Rattle.feature_values.specs.declared.value.Value.TheVariants.{Null, Words, Whole, Truth, Shape}
 use Rattle.feature_values.specs.declared.feature.Feature.{Feature}
-use Rattle.feature_values.specs.declared.feature.Rid.{Rid}
 use Rattle.fes_filter.specs.declared.query.SortKey.{SortKey}
 use Rattle.fes_filter.specs.Truth.{property_of}
 use Rattle.query_core.specs.Sorting.{kind_place, value_order, or_null, key_order, rid_order, feature_order}

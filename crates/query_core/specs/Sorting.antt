@@ -1,8 +1,8 @@
 -- The order of the features that a query selects (OGC 09-026r2, section 7.12: SortBy). Where nulls stand, that texts are ordered by
 -- their bytes, and that ties end in the default order, is this project's own.
-use Rattle.std.specs.Prelude.{ℕ, Bool, true, false, if◌then◌else◌, List, [], ◌∷◌, Option, Some, None, get_or}
+use Rattle.std.specs.Prelude.{ℕ, if◌then◌else◌, List, [], ◌∷◌, Option, Some, None}
 use Rattle.std.specs.declared.cmp.Ordering.{Ordering}
-use Rattle.std.specs.declared.cmp.Ordering.TheVariants.{Less, Equal, Greater}
+use Rattle.std.specs.declared.cmp.Ordering.TheVariants.{Equal}
 use Rattle.std.specs.Ordering.{ordering_reverse, ordering_then, nat_cmp, is_gt}
 use Rattle.feature_values.specs.Order.{order_of}
 use Rattle.feature_values.specs.declared.value.Value.{Value}
