@@ -5,6 +5,7 @@
 #![tactic(auto)]
 
 mod joining;
+mod ordering;
 mod paging;
 mod selecting;
 mod sorting;
