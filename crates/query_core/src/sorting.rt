@@ -1,11 +1,48 @@
-ghost use Rattle.std.specs.Prelude.{◌≡◌, IfOk};
+ghost use Rattle.std.specs.Prelude.{◌≡◌, IfOk, map};
 ghost use Rattle.query_core.specs.Selecting.{held, ids_of};
 ghost use Rattle.query_core.specs.Sorting.{sorted};
 
-use feature_values::Rid;
+use crate::ordering::feature_order;
+use feature_values::{Feature, Rid};
 use fes_filter::{FeatureView, SortKey};
 use std::alloc::Global;
-use wfs_ends::{List, Mem, OutOfMemory};
+use wfs_ends::{List, Mem};
+
+/// The same features, sorted by the keys.
+pub(crate) fn sort_features<'a>(
+    keys: &[SortKey],
+    mut features: Vec<&'a Feature>,
+) -> Mem<Vec<&'a Feature>>
+    ensures { IfOk result (λ fs. map (λ f. f.now) fs.items ≡ sorted keys.now (map (λ f. f.now) features.entry.items)) }
+{
+    features.sort_by(|a, b| feature_order(keys, *a, *b))?;
+    Ok(features)
+}
+
+/// Their identifiers.
+pub(crate) fn ids_of(alloc: Global, features: &[&Feature]) -> Mem<List<Rid>>
+    ensures { IfOk result (λ ids. ids ≡ ids_of (map (λ f. f.now) features.now)) }
+{
+    let mut ids = Vec::with_capacity(alloc, features.len())?;
+    for feature in features {
+        ids.push(feature.id)?;
+    }
+    Ok(List::of(ids))
+}
+
+/// The features that a view has of these identifiers, in their order.
+fn held<'a, V: FeatureView>(alloc: Global, view: &'a V, ids: &[Rid]) -> Mem<Vec<&'a Feature>>
+    ensures { IfOk result (λ fs. map (λ f. f.now) fs.items ≡ held (V.features view.now) ids.now) }
+{
+    let mut features = Vec::with_capacity(alloc, ids.len())?;
+    for id in ids {
+        let Some(feature) = view.get(*id) else {
+            continue;
+        };
+        features.push(feature)?;
+    }
+    Ok(features)
+}
 
 /// The identifiers of features that the view has, sorted by the keys (OGC 09-026r2, section 7.12): texts by their bytes, whole
 /// numbers by value, false before true; nulls first where a key ascends, and last where it descends; ties in default order,
@@ -18,5 +55,7 @@ pub fn sort_rows<V: FeatureView>(
 ) -> Mem<List<Rid>>
     ensures { IfOk result (λ ids. ids ≡ ids_of (sorted sort.now (held (V.features view.now) rows))) }
 {
-    Err(OutOfMemory)
+    let features = held(alloc, view, rows.items())?;
+    let features = sort_features(sort.items(), features)?;
+    ids_of(alloc, &features)
 }
