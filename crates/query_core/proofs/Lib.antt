@@ -1,4 +1,5 @@
 pub mod Held
+pub mod Joins
 pub mod Keys
 pub mod Orders
 pub mod Sorts

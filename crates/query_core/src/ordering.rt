@@ -65,7 +65,8 @@ fn key_order(key: SortKey, a: &Feature, b: &Feature) -> Ordering
 }
 
 #[tactic(auto, unfolding(crate::specs::Sorting::rid_order))]
-fn rid_order(a: Rid, b: Rid) -> Ordering
+/// The default order of identifiers.
+pub(crate) fn rid_order(a: Rid, b: Rid) -> Ordering
     ensures { result ≡ rid_order a b }
 {
     a.kind.cmp(&b.kind).then(a.number.cmp(&b.number))
