@@ -1,6 +1,5 @@
 -- Whether an identifier is among others, found by halving a sorted copy.
-use Rattle.std.proofs.Common.{◌≡◌, ℕ, ◌+◌, ◌<◌, ◌≤◌, Bool, true, false, cond, not, ◌&&◌, ◌==◌, eqb, ltb, List, [], ◌∷◌, ◌++◌, length, get_or, take, filter, Result, Ok, Err, is_ok, IsPermutation, refl, sym, ap, ◌∙◌, arith, ltb-true, ltb-false, eqb-true}
-use Rattle.std.specs.List.{list_any}
+use Rattle.std.proofs.Common.{◌≡◌, ℕ, ◌<◌, ◌≤◌, Bool, true, false, not, ◌&&◌, ◌==◌, eqb, ltb, List, [], ◌∷◌, ◌++◌, length, get_or, filter, Result, Ok, Err, is_ok, IsPermutation, refl, sym, ap, ◌∙◌, arith, ltb-true, ltb-false, eqb-true}
 use Rattle.std.specs.List.Sorted.{IsSorted, IsBinarySearchResult, IsSearchInRange}
 use Rattle.std.specs.declared.cmp.Ordering.{Ordering}
 use Rattle.std.specs.declared.cmp.Ordering.TheVariants.{Less, Equal, Greater}

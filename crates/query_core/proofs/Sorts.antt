@@ -155,9 +155,10 @@ module _ {X : Type 0} (R : X → X → Ordering) where
     -- what a sort ensures
     pub rises_from_sort : (xs : List X) → IsSortedBy (λ a b. is_lt (R a b)) xs → Rises xs
     rises_from_sort [] up = tt
-    rises_from_sort (x ∷ xs) up =
-        (recursion_from_All (UpTo x) xs (λ k d lt. sym (turned x (get_or xs k d)) ∙ sorted_far (λ a b. is_lt (R a b)) (ranks_by o (λ a. a)) (x ∷ xs) up 0 (suc k) d (omega arith) (omega (arith, lt))),
-         rises_from_sort xs (λ k d low high. let e : suc k + 1 ≡ suc (k + 1) = omega arith in rw e at (up (suc k) d (omega arith) (omega (arith, high)))))
+    rises_from_sort (x ∷ xs) up = (
+      recursion_from_All (UpTo x) xs (λ k d lt. sym (turned x (get_or xs k d)) ∙ sorted_far (λ a b. is_lt (R a b)) (ranks_by o (λ a. a)) (x ∷ xs) up 0 (suc k) d (omega arith) (omega (arith, lt))),
+      rises_from_sort xs (λ k d low high. let e : suc k + 1 ≡ suc (k + 1) = omega arith in rw e at (up (suc k) d (omega arith) (omega (arith, high)))),
+    )
 
     pub sort_is : (xs ys : List X) → IsSortedBy (λ a b. is_lt (R a b)) ys → IsStableBy (λ a b. is_lt (R a b)) xs ys → ys ≡ sorted_by xs
     sort_is xs ys up stable = unique ys (sorted_by xs) (rises_from_sort ys up) (sorted_rises xs) (λ x. stable x ∙ sym (sorted_stable x xs))

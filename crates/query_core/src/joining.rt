@@ -23,7 +23,9 @@ fn has(sorted: &[Rid], id: Rid) -> bool
     requires { IsSorted rid_order sorted.now }
     ensures { result ≡ is_among sorted.now id }
 {
-    sorted.binary_search_by(|other| rid_order(*other, id)).is_ok()
+    sorted
+        .binary_search_by(|other| rid_order(*other, id))
+        .is_ok()
 }
 
 /// Some identifiers, and behind them those of `more` that are not among others, which are in default order.

@@ -9,6 +9,7 @@ mod ordering;
 mod paging;
 mod selecting;
 mod sorting;
+mod walking;
 
 pub use joining::join_rows;
 pub use paging::page;

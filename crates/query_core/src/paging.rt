@@ -10,7 +10,11 @@ fn behind(ids: &[Rid], start: u32) -> &[Rid]
     ensures { result.now ≡ drop start ids.now }
 {
     let start = start as usize;
-    if start < ids.len() { &ids[start..] } else { &[] }
+    if start < ids.len() {
+        &ids[start..]
+    } else {
+        &[]
+    }
 }
 
 /// At most so many members at the front.
@@ -18,7 +22,11 @@ fn front(ids: &[Rid], count: u32) -> &[Rid]
     ensures { result.now ≡ take count ids.now }
 {
     let count = count as usize;
-    if count < ids.len() { &ids[..count] } else { ids }
+    if count < ids.len() {
+        &ids[..count]
+    } else {
+        ids
+    }
 }
 
 /// The page of a list that leaves out its first `start` members and has at most `count` of the rest; without a count, all
