@@ -15,3 +15,6 @@ pub use joining::join_rows;
 pub use paging::page;
 pub use selecting::select;
 pub use sorting::sort_rows;
+
+#[cfg(test)]
+mod tests;
