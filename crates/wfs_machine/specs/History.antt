@@ -3,22 +3,27 @@ use Rattle.std.specs.Prelude.{◌≡◌, ℕ, ◌≤◌, List, [], ◌∷◌, ta
 use Rattle.std.specs.List.{fold}
 use Rattle.wfs_machine.specs.declared.request.Entry.{Entry}
 use Rattle.wfs_machine.specs.declared.request.Request.{Request}
-use Rattle.wfs_machine.specs.declared.request.Request.TheVariants.{Transact}
+use Rattle.wfs_machine.specs.declared.request.Request.TheVariants.{GetFeatures, Transact}
 use Rattle.wfs_machine.specs.declared.reply.Reply.{Reply}
 use Rattle.wfs_machine.specs.State.{State, moment_in}
 use Rattle.wfs_machine.specs.Step.{step}
 
 -- a request that may change the state
 abbrev pub IsChange : Request → Type 0
+IsChange (GetFeatures present asked) = ⊥
 IsChange (Transact actions) = ⊤
 
 -- the state that an entry leaves
 abbrev pub stepped : State → Entry → State
 stepped state entry = (step state entry.moment entry.request).1
 
+-- the state after some entries
+abbrev pub after_all : State → List Entry → State
+after_all opening entries = fold stepped opening entries
+
 -- the state after the first n entries
 abbrev pub after : State → List Entry → ℕ → State
-after opening entries n = fold stepped opening (take n entries)
+after opening entries n = after_all opening (take n entries)
 
 -- each entry is a changing request, at a moment not before the last one
 abbrev pub IsLegal : State → List Entry → Type 0
@@ -31,4 +36,4 @@ timed state entry = record entry { moment = moment_in state entry.moment }
 
 -- the reply to an entry that comes after these
 abbrev pub reply_after : State → List Entry → Entry → Reply
-reply_after opening entries entry = (step (fold stepped opening entries) entry.moment entry.request).0
+reply_after opening entries entry = (step (after_all opening entries) entry.moment entry.request).0

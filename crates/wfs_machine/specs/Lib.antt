@@ -1,4 +1,5 @@
-pub mod Acting
 pub mod History
+pub mod Read
 pub mod State
 pub mod Step
+pub mod Terms

@@ -1,9 +1,10 @@
 -- What the service knows at a moment.
-use Rattle.std.specs.Prelude.{ℕ, List, [], ◌∷◌, min, max}
+use Rattle.std.specs.Prelude.{ℕ, List, [], length, replicate, flat_map, min, max}
 use Rattle.feature_values.specs.declared.feature.Feature.{Feature}
+use Rattle.feature_values.specs.declared.schema.Schema.{Schema}
 
--- The features stand by type, in the order of the schema, and within a type by number: that is the default order.
--- Counters say how many numbers were given, by type.
+-- Features stand by type, in the order of the schema, and within a type by number: that is the default order. Counters say how
+-- many numbers were given, by type.
 pub record State : Type 0 where
   pub features : List (List Feature)
   pub counters : List ℕ
@@ -12,9 +13,22 @@ pub record State : Type 0 where
   -- the last moment, in seconds since 1970
   pub last : ℕ
 
--- the state of the first opening, with one type and nothing else
-abbrev pub first_state : State
-first_state = record { features = [] ∷ []; counters = 0 ∷ []; opening = 1; last = 0 }
+-- all features, in default order
+abbrev pub all_features : State → List Feature
+all_features state = flat_map (λ fs. fs) state.features
+
+-- the state of the first opening, with so many types and no features
+abbrev pub first_state : ℕ → State
+first_state types = record { features = replicate types []; counters = replicate types 0; opening = 1; last = 0 }
+
+-- a machine: the schema that it serves, and its state
+pub record Machine : Type 0 where
+  pub schema : Schema
+  pub state : State
+
+-- the machine of the first opening
+abbrev pub opened : Schema → Machine
+opened schema = record { schema = schema; state = first_state (length schema.types) }
 
 -- a moment that is handed in counts as this one at the most (the year 8307)
 abbrev pub last_moment : ℕ

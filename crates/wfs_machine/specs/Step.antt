@@ -1,16 +1,18 @@
--- What a changing request answers, and the state that it leaves (OGC 09-025r2, 15).
-use Rattle.std.specs.Prelude.{◌≡◌, ℕ, ◌+◌, List, [], ◌∷◌, ◌++◌, Option, All, get_or, slice_set}
+-- What a request answers, and the state that it leaves (OGC 09-025r2, sections 11 and 15).
+use Rattle.std.specs.Prelude.{◌≡◌, ℕ, ◌+◌, ◌<◌, List, [], ◌∷◌, ◌++◌, length, Option, All, get_or, slice_set, ⊤}
 use Rattle.std.specs.List.{fold}
 use Rattle.feature_values.specs.declared.feature.Feature.{Feature}
 use Rattle.feature_values.specs.declared.feature.Rid.{Rid}
+use Rattle.feature_values.specs.declared.schema.Schema.{Schema}
 use Rattle.wfs_machine.specs.declared.reply.Made.{Made}
 use Rattle.wfs_machine.specs.declared.reply.Reply.{Reply}
 use Rattle.wfs_machine.specs.declared.reply.Reply.TheVariants.{Transacted}
 use Rattle.wfs_machine.specs.declared.request.Action.{Action}
 use Rattle.wfs_machine.specs.declared.request.Action.TheVariants.{Insert}
 use Rattle.wfs_machine.specs.declared.request.Request.{Request}
-use Rattle.wfs_machine.specs.declared.request.Request.TheVariants.{Transact}
-use Rattle.wfs_machine.specs.State.{State, moment_in}
+use Rattle.wfs_machine.specs.declared.request.Request.TheVariants.{GetFeatures, Transact}
+use Rattle.wfs_machine.specs.State.{State, all_features, clamped, moment_in}
+use Rattle.wfs_machine.specs.Read.{collection}
 
 -- a state in the middle of a transaction, and what its inserts have made so far
 pub record Acting : Type 0 where
@@ -46,15 +48,21 @@ acted_all state actions = fold acted (record { features = state.features; counte
 abbrev pub transacted : List Made → Reply
 transacted made = Transacted 0 made [] []
 
--- the reply to a request at a moment that is handed in, and the state that it leaves
+-- The reply to a request at a moment that is handed in, and the state that it leaves. A read leaves the state as it was.
 unfoldable pub step : State → ℕ → Request → Reply × State
+step state moment (GetFeatures present asked) = (collection (all_features state) (clamped moment) present asked, state)
 step state moment (Transact actions) =
     let at = acted_all state actions in
     (transacted at.made, record state { features = at.features; counters = at.counters; last = moment_in state moment })
 
--- each feature that comes in is of the one type there is
-abbrev pub IsActionOfTypes : Action → Type 0
-IsActionOfTypes (Insert handle features) = All (λ f. f.id.kind ≡ 0) features
+-- the reply to a read
+abbrev pub read : State → ℕ → Request → Reply
+read state moment request = (step state moment request).0
 
-abbrev pub IsOfTypes : Request → Type 0
-IsOfTypes (Transact actions) = All IsActionOfTypes actions
+-- each feature that comes in is of a type of the schema
+abbrev pub IsActionOfTypes : Schema → Action → Type 0
+IsActionOfTypes schema (Insert handle features) = All (λ f. f.id.kind < length schema.types) features
+
+abbrev pub IsOfTypes : Schema → Request → Type 0
+IsOfTypes schema (GetFeatures present asked) = ⊤
+IsOfTypes schema (Transact actions) = All (IsActionOfTypes schema) actions

@@ -1,15 +1,17 @@
-//! The machine of the service: what a changing request answers and what state it leaves, stated as
-//! a step on plain lists (`specs/`), and a plain machine that takes those steps.
+//! The machine of the service: what a request answers and what state it leaves, stated as a step on plain lists (`specs/`), and a
+//! plain machine that takes those steps.
 #![tactic(auto)]
 
-mod acting;
+mod fault;
+mod link;
 mod plain;
 mod reply;
 mod request;
+mod terms;
 
+pub use fault::AskFault;
+pub use link::page_link;
 pub use plain::Plain;
-pub use reply::{Made, Reply};
-pub use request::{Action, Entry, Request};
-
-#[cfg(test)]
-mod tests;
+pub use reply::{Made, Refusal, Reply};
+pub use request::{Action, Asked, Entry, Present, Request};
+pub use terms::{is_format, is_listed, is_version, read_count, refused};

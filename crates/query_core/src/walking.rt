@@ -1,0 +1,61 @@
+//! The plain way to select: all features, one after the other.
+
+ghost use Rattle.std.specs.Prelude.{◌≡◌, IfOk, OnOk, Some, map, filter};
+ghost use Rattle.fes_filter.specs.View.{IsInOrder};
+ghost use Rattle.query_core.specs.Selecting.{is_selected};
+
+use feature_values::{Feature, Rid};
+use fes_filter::{FeatureView, Query, Steps, truth};
+use std::alloc::Global;
+use std::sync::ledger::Ledger;
+use wfs_ends::Mem;
+
+/// Whether a query selects a feature.
+#[tactic(auto, unfolding(crate::specs::Selecting::is_selected))]
+pub(crate) fn is_selected<L: Ledger>(
+    alloc: Global,
+    query: &Query,
+    feature: &Feature,
+    steps: &mut Steps<L>,
+) -> Mem<bool>
+    ensures { IfOk result (λ b. b ≡ is_selected query.now feature.now) }
+{
+    if let Some(kind) = query.kind {
+        if feature.id.kind != kind {
+            return Ok(false);
+        }
+    }
+    match &query.filter {
+        None => Ok(true),
+        Some(filter) => truth(alloc, filter, feature, steps),
+    }
+}
+
+/// The place right behind a feature.
+fn place_behind(feature: &Feature) -> Option<Rid>
+    ensures { result ≡ Some feature.now.id }
+{
+    Some(feature.id)
+}
+
+/// The features that a query selects, in default order.
+pub(crate) fn walk<'a, V: FeatureView, L: Ledger>(
+    alloc: Global,
+    view: &'a V,
+    query: &Query,
+    steps: &mut Steps<L>,
+) -> Mem<Vec<&'a Feature>>
+    ensures value { IfOk result (λ fs. map (λ f. f.now) fs.items ≡ filter (is_selected query.now) (V.features view.now)) }
+    ensures order { OnOk result (IsInOrder (V.features view.now)) }
+{
+    let mut found = Vec::new(alloc);
+    let mut after = None;
+    while let Some(feature) = view.next(after) {
+        after = place_behind(feature);
+        if !is_selected(alloc, query, feature, steps)? {
+            continue;
+        }
+        found.push(feature)?;
+    }
+    Ok(found)
+}
