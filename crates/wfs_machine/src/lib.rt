@@ -3,11 +3,14 @@
 #![tactic(auto)]
 
 mod fault;
+mod finding;
 mod link;
 mod plain;
 mod reply;
 mod request;
+mod row;
 mod terms;
+mod viewing;
 
 pub use fault::AskFault;
 pub use link::page_link;
