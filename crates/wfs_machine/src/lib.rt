@@ -2,10 +2,13 @@
 //! plain machine that takes those steps.
 #![tactic(auto)]
 
+mod acting;
 mod fault;
 mod finding;
 mod link;
+mod paging;
 mod plain;
+mod reading;
 mod reply;
 mod request;
 mod row;

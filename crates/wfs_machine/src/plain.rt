@@ -1,11 +1,13 @@
 ghost use Rattle.std.specs.Prelude.{◌≡◌, IfOk, OnErr};
 
+use crate::acting::transact;
+use crate::reading::{all_selected, presented};
 use crate::row::Row;
 use crate::{Entry, Reply, Request};
 use feature_values::{Feature, Schema};
 use std::alloc::Global;
 use std::marker::Model;
-use wfs_ends::{Mem, OutOfMemory};
+use wfs_ends::{List, Mem, OutOfMemory};
 
 // A moment that is handed in counts as this one at the most.
 const LAST_MOMENT: u64 = 200_000_000_000;
@@ -93,6 +95,7 @@ impl Plain {
 
     /// Takes a step: carries the entry's request out at the entry's moment, and answers it. Where
     /// memory runs out, the machine is as before.
+    #[tactic(auto, unfolding(crate::specs::Step::step))]
     pub fn step(&mut self, entry: &Entry) -> Mem<Reply>
         requires types { IsOfTypes self.old.schema entry.now.request }
         requires change { IsChange entry.now.request }
@@ -100,13 +103,36 @@ impl Plain {
         ensures err { OnErr result (self.new ≡ self.old) }
         ensures schema { self.new.schema ≡ self.old.schema }
     {
-        Err(OutOfMemory)
+        let Request::Transact { actions } = &entry.request else {
+            return Err(OutOfMemory);
+        };
+        let moment = self.moment_of(entry.moment);
+        let alloc = self.alloc;
+        let made = transact(
+            alloc,
+            self.rows.as_mut_slice(),
+            &mut self.counters,
+            actions.items(),
+        )?;
+        self.last = moment;
+        Ok(Reply::Transacted {
+            deleted: 0,
+            inserted: List::of(made),
+            updated: List::of(Vec::new(alloc)),
+            replaced: List::of(Vec::new(alloc)),
+        })
     }
 
     /// Answers a read, and prints this moment, 200,000,000,000 at the most.
+    #[tactic(auto, unfolding(crate::specs::Step::step, crate::specs::Read::collection))]
     pub fn read(&self, moment: u64, request: &Request) -> Mem<Reply>
         ensures { IfOk result (λ reply. reply ≡ read self.now.state moment request.now) }
     {
-        Err(OutOfMemory)
+        // A request that may change the state is no read.
+        let Request::GetFeatures(present, asked) = request else {
+            return Err(OutOfMemory);
+        };
+        let ids = all_selected(self, self.alloc, asked.items())?;
+        presented(self, self.alloc, moment.min(LAST_MOMENT), present, &ids)
     }
 }
