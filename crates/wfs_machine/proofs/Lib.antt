@@ -1,1 +1,4 @@
+pub mod Extending
+pub mod Folding
 pub mod Numerals
+pub mod Rows

@@ -1,4 +1,5 @@
 pub mod History
+pub mod Kept
 pub mod Read
 pub mod State
 pub mod Step

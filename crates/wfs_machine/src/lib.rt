@@ -2,12 +2,18 @@
 //! plain machine that takes those steps.
 #![tactic(auto)]
 
+mod acting;
 mod fault;
+mod finding;
 mod link;
+mod paging;
 mod plain;
+mod reading;
 mod reply;
 mod request;
+mod row;
 mod terms;
+mod viewing;
 
 pub use fault::AskFault;
 pub use link::page_link;

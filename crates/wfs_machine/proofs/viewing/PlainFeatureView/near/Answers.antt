@@ -1,0 +1,16 @@
+use Rattle.std.proofs.Common.{◌≡◌, map}
+use Rattle.std.proofs.lemmas.Result.{IfOk-weaker}
+use Rattle.fes_filter.specs.View.{HasAllNear, IsOnce}
+use Rattle.wfs_machine.specs.State.{all_features}
+use Rattle.wfs_machine.proofs.Rows.{has_all_near, each_once}
+use Rattle.wfs_machine.proofs.viewing.PlainFeatureView.near.Goals as goal
+
+pub returns-clause-whole : goal.returns-clause-whole
+returns-clause-whole c =
+    IfOk-weaker c.ids_of.result (λ ids. ids ≡ map (λ f. f.id) c.row.result.now) (λ ids. HasAllNear c.args.kind c.args._area.now (all_features c.args.self.now.state) ids)
+    (λ ids is. rw (is, c.row.ensures.row) (has_all_near _ _ _ c.args.kind c.args._area.now c.row.ensures.all)) c.ids_of.ensures
+
+pub returns-clause-once : goal.returns-clause-once
+returns-clause-once c =
+    IfOk-weaker c.ids_of.result (λ ids. ids ≡ map (λ f. f.id) c.row.result.now) IsOnce
+    (λ ids is. rw is (each_once c.row.result.now c.row.ensures.kept.rises)) c.ids_of.ensures

@@ -1,0 +1,52 @@
+ghost use Rattle.std.specs.Prelude.{◌≡◌, IfOk, ℕ};
+ghost use Rattle.std.specs.Option.{option_map};
+ghost use Rattle.wfs_machine.specs.Kept.{page_at};
+ghost use Rattle.wfs_machine.specs.Read.{next_page, previous_page, link_to};
+
+use crate::link::page_link;
+use std::alloc::Global;
+use wfs_ends::{Mem, Text};
+
+// Where the page behind one begins and how many members it has at most, where something is left for it.
+#[tactic(auto, unfolding(crate::specs::Read::next_page))]
+pub fn next_page(start: u32, count: Option<u32>, matched: u64) -> Option<(u64, u64)>
+    ensures { option_map page_at result ≡ next_page start count matched }
+{
+    let count = u64::from(count?);
+    let next = u64::from(start) + count;
+    if count > 0 && next < matched {
+        Some((next, count))
+    } else {
+        None
+    }
+}
+
+// The same of the page before one, where something stands before it.
+#[tactic(auto, unfolding(crate::specs::Read::previous_page))]
+pub fn previous_page(start: u32, count: Option<u32>) -> Option<(u64, u64)>
+    ensures { option_map page_at result ≡ previous_page start count }
+{
+    let start = u64::from(start);
+    if start == 0 {
+        return None;
+    }
+    match count {
+        None => Some((0, start)),
+        Some(0) => None,
+        Some(count) => {
+            let count = u64::from(count);
+            Some((start.saturating_sub(count), count.min(start)))
+        }
+    }
+}
+
+// The link to a page, where there is such a page and links have a beginning.
+#[tactic(auto, unfolding(crate::specs::Read::link_to))]
+pub fn link_to(alloc: Global, link: &Option<Text>, page: Option<(u64, u64)>) -> Mem<Option<Text>>
+    ensures { IfOk result (λ text. text ≡ link_to link.now (option_map page_at page)) }
+{
+    match (link, page) {
+        (Some(link), Some((start, count))) => Ok(Some(page_link(alloc, link, start, count)?)),
+        _ => Ok(None),
+    }
+}
