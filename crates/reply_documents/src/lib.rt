@@ -1,0 +1,8 @@
+//! The answers of the service as bytes.
+#![tactic(auto)]
+
+mod answer;
+mod refusal;
+mod row;
+
+pub use refusal::put_fixed;
