@@ -5,5 +5,6 @@ pub mod Loops
 pub mod Near
 pub mod Pairs
 pub mod Pieces
+pub mod Printed
 pub mod Reading
 pub mod Texts

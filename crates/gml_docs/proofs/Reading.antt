@@ -32,15 +32,19 @@ module _ (local : List ℕ) (attributes : List Attribute) (children : List Eleme
   unfolding is_gml gml_name element
   is_named want = ap (λ (o : Element-F Element). is_name gml_space want o.name) (out-roll-Element _)
 
-  has_children : (out-Element e).children ≡ children
+  pub has_name : (out-Element e).name ≡ gml_name local
+  unfolding element
+  has_name = ap (λ (o : Element-F Element). o.name) (out-roll-Element _)
+
+  pub has_children : (out-Element e).children ≡ children
   unfolding element
   has_children = ap (λ (o : Element-F Element). o.children) (out-roll-Element _)
 
-  has_text : (out-Element e).text ≡ text
+  pub has_text : (out-Element e).text ≡ text
   unfolding element
   has_text = ap (λ (o : Element-F Element). o.text) (out-roll-Element _)
 
-  has_attributes : (out-Element e).attributes ≡ attributes
+  pub has_attributes : (out-Element e).attributes ≡ attributes
   unfolding element
   has_attributes = ap (λ (o : Element-F Element). o.attributes) (out-roll-Element _)
 

@@ -8,13 +8,15 @@ mod laws;
 mod numbers;
 mod path;
 mod positions;
+mod print;
 mod read;
 mod tree;
 mod words;
 
 pub use envelope::read_envelope;
 pub use fault::GmlFault;
-pub use laws::round_trip;
+pub use laws::{round_trip, stands_alike};
+pub use print::{GeometryId, geometry_length, put_geometry};
 pub use read::read_geometry;
 pub use tree::geometry_tree;
 
