@@ -1,11 +1,13 @@
 ghost use Rattle.std.specs.Prelude.{◌≡◌, length};
 ghost use Rattle.wfs_ends.specs.Ends.{capped, Gives, Writes};
-ghost use Rattle.reply_documents.specs.Refusals.{fixed_text, report_text, row_shown};
+ghost use Rattle.reply_documents.specs.Refusals.{fixed_text, refusal_body, report_text, row_of, row_shown};
 
 use crate::answer::{finish, put_head, put_str, str_length};
 use crate::row::{Row, row_of};
 use doc_tree::{escaped_length, put_text_on};
+use http::StatusCode;
 use wfs_ends::{Sink, WriteFault, put_on};
+use wfs_machine::Refusal;
 
 // The parts of an exception report (OGC 06-121r9, 8.5) that are the same in each.
 const START: &[u8] =
@@ -18,7 +20,7 @@ const TEXT: &[u8] = b"\"><ows:ExceptionText>";
 const END: &[u8] = b"</ows:ExceptionText></ows:Exception></ows:ExceptionReport>";
 
 // Gives the exception report of a row, which points at this.
-pub(crate) fn put_report<S: Sink>(sink: &mut S, failed: bool, row: &Row, locator: &str) -> bool
+fn put_report<S: Sink>(sink: &mut S, failed: bool, row: &Row, locator: &str) -> bool
     ensures { Writes (record { shown = S.sink sink.old; failed = failed }) (report_text (row_shown row.now) locator.now) (record { shown = S.sink sink.new; failed = result }) }
 {
     let failed = put_on(sink, failed, START);
@@ -32,7 +34,7 @@ pub(crate) fn put_report<S: Sink>(sink: &mut S, failed: bool, row: &Row, locator
 
 // How many bytes that is.
 #[tactic(auto, using(wfs_ends::proofs::Given::piece_lengths), unfolding(crate::specs::Refusals::report_text))]
-pub(crate) fn report_length(row: &Row, locator: &str) -> u64
+fn report_length(row: &Row, locator: &str) -> u64
     ensures { result ≡ capped (length (report_text (row_shown row.now) locator.now)) }
 {
     let fixed = START.len() + LOCATOR.len() + TEXT.len() + END.len();
@@ -40,6 +42,31 @@ pub(crate) fn report_length(row: &Row, locator: &str) -> u64
         .saturating_add(str_length(row.code))
         .saturating_add(escaped_length(locator, true))
         .saturating_add(str_length(row.reason))
+}
+
+// The status of a refusal.
+pub(crate) fn refusal_status(refusal: &Refusal) -> StatusCode
+    ensures { result ≡ (row_of refusal.now.row).status }
+{
+    row_of(refusal.row).status
+}
+
+// Gives the body of a refusal.
+#[tactic(auto, unfolding(crate::specs::Refusals::refusal_body))]
+pub(crate) fn put_refusal<S: Sink>(sink: &mut S, failed: bool, refusal: &Refusal) -> bool
+    ensures { Writes (record { shown = S.sink sink.old; failed = failed }) (refusal_body refusal.now.row refusal.now.locator) (record { shown = S.sink sink.new; failed = result }) }
+{
+    let row = row_of(refusal.row);
+    put_report(sink, failed, &row, refusal.locator.as_str())
+}
+
+// How many bytes that is.
+#[tactic(auto, unfolding(crate::specs::Refusals::refusal_body))]
+pub(crate) fn refusal_length(refusal: &Refusal) -> u64
+    ensures { result ≡ capped (length (refusal_body refusal.now.row refusal.now.locator)) }
+{
+    let row = row_of(refusal.row);
+    report_length(&row, refusal.locator.as_str())
 }
 
 /// Gives the refusal of a row of the table of refusals (docs/FORMATS.md) that points at what all of that row point at,
