@@ -1,12 +1,12 @@
 -- Two lists walked together.
-use Rattle.std.proofs.Common.{◌≡◌, ℕ, ◌+◌, ◌<◌, ◌≤◌, List, [], ◌∷◌, ◌++◌, length, take, get_or, length-append, refl, sym, ap, ap₂, ◌∙◌, arith}
+use Rattle.std.proofs.Common.{◌≡◌, ℕ, ◌+◌, ◌<◌, ◌≤◌, List, [], ◌∷◌, length, take, get_or, length-append, sym, ap₂, ◌∙◌, arith}
 use Rattle.std.specs.Prelude.{min}
 use Rattle.std.specs.List.{flat_map, zip}
 use Rattle.std.proofs.lemmas.List.{take_more, take_all, append-nil}
 use Rattle.std.proofs.lemmas.Grind.{flat_map-append}
 use Rattle.std.proofs.lemmas.List.Concat.{flat_map-cons}
 use Rattle.std.proofs.lemmas.Slice.Zip.{length-zip, get_or-zip}
-use Rattle.wfs_ends.specs.Ends.{Writing, Writes, capped}
+use Rattle.wfs_ends.specs.Ends.{Writing, Writes}
 use Rattle.wfs_ends.proofs.Writing.{wrote_more, wrote_all}
 
 module _ {A B : Type 0} (f : A × B → List ℕ) (xs : List A) (ys : List B) (i : ℕ) where

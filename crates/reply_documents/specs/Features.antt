@@ -1,5 +1,5 @@
 -- A feature as an element (OGC 07-036, sections 9.3 and 9.4): its properties in the order of its type, where they are not null.
-use Rattle.std.specs.Prelude.{ℕ, Bool, true, false, not, ◌==◌, if◌then◌else◌, List, [], ◌∷◌, length, take, min, codes, decimal, Option, Some, None, slice_get}
+use Rattle.std.specs.Prelude.{ℕ, Bool, true, false, not, ◌==◌, if◌then◌else◌, List, [], ◌∷◌, length, take, min, codes, decimal, Option, slice_get}
 use Rattle.std.specs.List.{flat_map, list_any, zip}
 use Rattle.std.specs.Fmt.{signed_decimal}
 use Rattle.wfs_ends.specs.Ends.{joined}

@@ -1,4 +1,4 @@
-use Rattle.std.proofs.Common.{◌+◌, arith}
+use Rattle.std.proofs.Common.{arith}
 use Rattle.wfs_ends.proofs.Writing.{wrote_more}
 use Rattle.reply_documents.specs.Collection.{member_text}
 use Rattle.reply_documents.proofs.collection.put_each_member.Goals as goal

@@ -1,4 +1,4 @@
-use Rattle.std.proofs.Common.{◌+◌, arith}
+use Rattle.std.proofs.Common.{arith}
 use Rattle.wfs_ends.proofs.Writing.{wrote_more}
 use Rattle.reply_documents.specs.Transacted.{made_text}
 use Rattle.reply_documents.proofs.transacted.put_made_list.Goals as goal
