@@ -1,0 +1,9 @@
+//! The date and time of a moment, as text.
+#![tactic(auto)]
+
+mod moment;
+
+pub use moment::moment_text;
+
+#[cfg(test)]
+mod tests;

@@ -1,0 +1,7 @@
+use Rattle.wfs_ends.proofs.Writing.{wrote_steps}
+use Rattle.reply_documents.specs.Transacted.{some_results_text}
+use Rattle.reply_documents.proofs.transacted.put_some_results.Goals as goal
+
+pub returns : goal.returns
+unfolding some_results_text
+returns g c = search wrote_steps depth 14
