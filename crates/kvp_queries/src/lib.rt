@@ -10,3 +10,6 @@ mod presenting;
 mod request;
 
 pub use request::read_query;
+
+#[cfg(test)]
+mod tests;
