@@ -1,0 +1,3 @@
+pub mod Finds
+pub mod Reading
+pub mod Splits

@@ -1,0 +1,13 @@
+use Rattle.std.proofs.Common.{◌≡◌, ◌++◌, map, length, IsUtf8}
+use Rattle.std.specs.List.{slice_split}
+use Rattle.kvp_queries.specs.Request.{is_comma, id_of, ids_in}
+use Rattle.kvp_queries.proofs.features.ids_in.Given as goal
+
+abbrev pub invariant-loop-first : goal.invariant-loop-first
+invariant-loop-first l = record {
+  text : IsUtf8 l.rest;
+  read : l.ids.items ++ map (id_of l.schema) (slice_split is_comma l.rest) ≡ ids_in l.schema l.text;
+}
+
+abbrev pub decreases-loop-first : goal.decreases-loop-first
+decreases-loop-first l = length l.rest

@@ -1,0 +1,15 @@
+//! Requests as queries of key-value pairs (OGC 09-025r2, section 6.2.5): the request that a query asks, or the first thing that is
+//! wrong with it.
+#![tactic(auto)]
+
+mod features;
+mod link;
+mod names;
+mod pairs;
+mod presenting;
+mod request;
+
+pub use request::read_query;
+
+#[cfg(test)]
+mod tests;
