@@ -18,6 +18,7 @@ use Rattle.feature_values.specs.declared.feature.Feature.{Feature}
 use Rattle.feature_values.specs.Fits.{is_of_kind}
 use Rattle.feature_values.specs.Ids.{type_named, property_named}
 use Rattle.feature_values.specs.Reads.{reads}
+use Rattle.wfs_machine.specs.declared.fault.AskFault.{AskFault}
 use Rattle.wfs_machine.specs.Terms.{refused}
 use Rattle.wfs_requests.specs.Attributes.{Ask, local_of, attributes_of, value_at, no_others}
 
@@ -30,29 +31,29 @@ is_geometry Polygon = true
 is_geometry kind = false
 
 -- a value does not fit a property
-abbrev pub unfit : {A : Type 0} → Property → Ask A
-unfit property = Err (refused 14 property.name)
+abbrev pub unfit : Property → AskFault
+unfit property = refused 14 property.name
 
 -- what was read, or else the value does not fit
 abbrev pub or_unfit : {A E : Type 0} → Property → Result A E → Ask A
 or_unfit property (Ok x) = Ok x
-or_unfit property (Err fault) = unfit property
+or_unfit property (Err fault) = Err (unfit property)
 
 -- a geometry of the property's kind
 unfoldable pub shape_of : List (List ℕ) → Property → Element → Ask Value
 shape_of srs property e = do
   shape ← or_unfit property (geometry_of srs e)
-  if is_of_kind (Shape shape) property.kind then Ok (Shape shape) else unfit property
+  if is_of_kind (Shape shape) property.kind then Ok (Shape shape) else Err (unfit property)
 
 -- the one geometry that stands there
 abbrev pub only_shape : List (List ℕ) → Property → List Element → Ask Value
 only_shape srs property (e ∷ []) = shape_of srs property e
-only_shape srs property elements = unfit property
+only_shape srs property elements = Err (unfit property)
 
 -- a text that the property's kind reads
 unfoldable pub word_of : Property → Element → Ask Value
 word_of property e =
-    if length (out-Element e).children == 0 then or_unfit property (reads property (out-Element e).text) else unfit property
+    if length (out-Element e).children == 0 then or_unfit property (reads property (out-Element e).text) else Err (unfit property)
 
 -- the content of an element as a value of a property: one geometry of its kind, or a text alone, taken whole
 unfoldable pub content_of : List (List ℕ) → Property → Element → Ask Value
@@ -76,7 +77,7 @@ is_nil e =
     && (length (out-Element e).children == 0 && length (out-Element e).text == 0)
 
 abbrev pub null_of : Property → Ask Value
-null_of property = if property.required then unfit property else Ok Null
+null_of property = if property.required then Err (unfit property) else Ok Null
 
 -- the value of the element of a property, which has no attributes in no namespace
 unfoldable pub value_of : List (List ℕ) → Property → Element → Ask Value
@@ -91,9 +92,12 @@ pub record Given : Type 0 where
   pub met : List Bool
   pub values : List Value
 
+abbrev pub so_far : List Bool → List Value → Given
+so_far met values = record { met = met; values = values }
+
 -- nothing so far
 abbrev pub nothing : FeatureType → Given
-nothing of_type = record { met = map (λ p. false) of_type.properties; values = map (λ p. Null) of_type.properties }
+nothing of_type = so_far (map (λ p. false) of_type.properties) (map (λ p. Null) of_type.properties)
 
 -- the place among the properties of a type of the one that an element stands for
 unfoldable pub place_of : Schema → FeatureType → Element → Option ℕ
@@ -101,18 +105,18 @@ place_of schema of_type e =
     if bytes_eq (out-Element e).name.space schema.space then property_named of_type (local_of e) else None
 
 -- an element that no feature of the type has there
-abbrev pub misplaced : {A : Type 0} → Element → Ask A
-misplaced e = Err (refused 14 (local_of e))
+abbrev pub misplaced : Element → AskFault
+misplaced e = refused 14 (local_of e)
 
 -- what was read so far, with the value of a property at its place
 abbrev pub with_value : List (List ℕ) → Given → ℕ → Element → Option Property → Ask Given
-with_value srs given place e None = misplaced e
+with_value srs given place e None = Err (misplaced e)
 with_value srs given place e (Some property) =
-    if get_or given.met place true then misplaced e else
-    (value_of srs property e >>= λ value. Ok (record { met = slice_set given.met place true; values = slice_set given.values place value }))
+    if get_or given.met place true then Err (misplaced e) else
+    (value_of srs property e >>= λ value. Ok (so_far (slice_set given.met place true) (slice_set given.values place value)))
 
 abbrev pub with_element : Schema → FeatureType → Given → Element → Option ℕ → Ask Given
-with_element schema of_type given e None = misplaced e
+with_element schema of_type given e None = Err (misplaced e)
 with_element schema of_type given e (Some place) = with_value schema.srs given place e (slice_get of_type.properties place)
 
 -- What was read so far, with one element more: of a property of the type, which comes at most once. A boundedBy of GML is
@@ -121,9 +125,13 @@ unfoldable pub next_value : Schema → FeatureType → Given → Element → Ask
 next_value schema of_type given e =
     if is_gml (codes "boundedBy") e then Ok given else with_element schema of_type given e (place_of schema of_type e)
 
+-- a required property was met
+unfoldable pub one_met : Property → Bool → Ask (Unit {0})
+one_met property met = if property.required && not met then Err (unfit property) else Ok tt
+
 -- each required property was met, or the first that was not is refused
 unfoldable pub all_met : List Property → List Bool → Ask (Unit {0})
-all_met (property ∷ properties) (met ∷ more) = if property.required && not met then unfit property else all_met properties more
+all_met (property ∷ properties) (met ∷ more) = one_met property met >>= λ _. all_met properties more
 all_met properties met = Ok tt
 
 -- the values of a feature of this type, in the order of its properties
@@ -143,11 +151,11 @@ abbrev pub numberless : ℕ → List Value → Feature
 numberless kind values = let id : Rid = record { kind = kind; number = 0 } in record { id = id; values = values }
 
 abbrev pub feature_of_type : Schema → ℕ → Element → Option FeatureType → Ask Feature
-feature_of_type schema kind e None = misplaced e
+feature_of_type schema kind e None = Err (misplaced e)
 feature_of_type schema kind e (Some of_type) = values_of schema of_type e >>= λ values. Ok (numberless kind values)
 
 abbrev pub feature_of_kind : Schema → Element → Option ℕ → Ask Feature
-feature_of_kind schema e None = misplaced e
+feature_of_kind schema e None = Err (misplaced e)
 feature_of_kind schema e (Some kind) = feature_of_type schema kind e (slice_get schema.types kind)
 
 -- the feature of an element of the schema's namespace whose name is a type's

@@ -3,3 +3,8 @@
 #![tactic(auto)]
 
 mod attributes;
+mod features;
+mod transactions;
+mod values;
+
+pub use transactions::read_request;
