@@ -8,3 +8,6 @@ mod transactions;
 mod values;
 
 pub use transactions::read_request;
+
+#[cfg(test)]
+mod tests;
