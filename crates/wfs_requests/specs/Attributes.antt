@@ -1,0 +1,105 @@
+-- How the elements of a request are judged (OGC 09-025r2, sections 7.6 and 15.2): an element's name is allowed where it
+-- stands; its listed attributes, in the order of the list; other attributes in no namespace, of which the first by name is
+-- refused; its children in document order; and then the children that are missing. The first refusal is the answer.
+-- Attributes of namespaces are not looked at, nor is text beside child elements.
+use Rattle.std.specs.Prelude.{ℕ, Bool, true, false, ◌&&◌, not, if◌then◌else◌, List, [], ◌∷◌, codes, Option, Some, None, Result, Ok, Err}
+use Rattle.std.specs.Str.{bytes_eq}
+use Rattle.std.specs.Ordering.{nat_cmp}
+use Rattle.std.specs.Cmp.Lexicographic.{slice_cmp}
+use Rattle.std.specs.declared.cmp.Ordering.{Ordering}
+use Rattle.std.specs.declared.cmp.Ordering.TheVariants.{Less}
+use Rattle.doc_tree.specs.declared.tree.Attribute.{Attribute}
+use Rattle.doc_tree.specs.declared.tree.Element.{Element, out-Element}
+use Rattle.gml_docs.specs.Elements.{is_name, is_among}
+use Rattle.wfs_machine.specs.declared.fault.AskFault.{AskFault}
+use Rattle.wfs_machine.specs.Terms.{refused, is_version, is_format, is_listed}
+
+-- what is read, or why it is refused
+abbrev pub Ask : Type 0 → Type 0
+Ask A = Result A AskFault
+
+abbrev pub local_of : Element → List ℕ
+local_of e = (out-Element e).name.local
+
+abbrev pub attributes_of : Element → List Attribute
+attributes_of e = (out-Element e).attributes
+
+-- the value of the first attribute of this name
+abbrev pub value_at : List ℕ → List ℕ → List Attribute → Option (List ℕ)
+value_at space local [] = None
+value_at space local (a ∷ rest) = if is_name space local a.name then Some a.value else value_at space local rest
+
+-- the value of the first attribute of this name in no namespace
+abbrev pub value_in : List ℕ → List Attribute → Option (List ℕ)
+value_in local attributes = value_at [] local attributes
+
+-- ---- listed attributes
+
+-- an attribute that has to be there, with a value that passes
+abbrev pub needed : List ℕ → (List ℕ → Bool) → Option (List ℕ) → Ask (Unit {0})
+needed local test None = Err (refused 10 local)
+needed local test (Some value) = if test value then Ok tt else Err (refused 11 local)
+
+-- an attribute that may be there, and then has a value that passes
+abbrev pub allowed : List ℕ → (List ℕ → Bool) → Option (List ℕ) → Ask (Unit {0})
+allowed local test None = Ok tt
+allowed local test (Some value) = if test value then Ok tt else Err (refused 11 local)
+
+-- the service: WFS
+unfoldable pub service_at : List Attribute → Ask (Unit {0})
+service_at attributes = needed (codes "service") (λ value. bytes_eq value (codes "WFS")) (value_in (codes "service") attributes)
+
+-- the version of the service
+unfoldable pub version_at : List Attribute → Ask (Unit {0})
+version_at attributes = allowed (codes "version") is_version (value_in (codes "version") attributes)
+
+-- the format of the features that come in
+unfoldable pub format_at : List Attribute → Ask (Unit {0})
+format_at attributes = allowed (codes "inputFormat") is_format (value_in (codes "inputFormat") attributes)
+
+-- the reference system: one of its names
+unfoldable pub srs_at : List (List ℕ) → List Attribute → Ask (Unit {0})
+srs_at srs attributes = allowed (codes "srsName") (is_listed srs) (value_in (codes "srsName") attributes)
+
+-- what is not built yet
+abbrev pub not_built : AskFault
+not_built = refused 99 (codes "stage")
+
+abbrev pub unbuilt : Option (List ℕ) → Ask (Unit {0})
+unbuilt None = Ok tt
+unbuilt (Some value) = Err not_built
+
+-- an attribute that is not built yet
+unfoldable pub unbuilt_at : List ℕ → List Attribute → Ask (Unit {0})
+unbuilt_at local attributes = unbuilt (value_in local attributes)
+
+-- ---- other attributes
+
+-- an attribute in no namespace that is none of the listed ones
+unfoldable pub is_other : List (List ℕ) → Attribute → Bool
+is_other listed a = bytes_eq a.name.space [] && not (is_among listed a.name.local)
+
+abbrev pub is_less : Ordering → Bool
+is_less Less = true
+is_less other = false
+
+-- the first by name of those so far and one more
+abbrev pub first_name : Option (List ℕ) → List ℕ → Option (List ℕ)
+first_name None name = Some name
+first_name (Some found) name = if is_less (slice_cmp nat_cmp name found) then Some name else Some found
+
+abbrev pub next_other : List (List ℕ) → Option (List ℕ) → Attribute → Option (List ℕ)
+next_other listed found a = if is_other listed a then first_name found a.name.local else found
+
+-- the first by name of the attributes that are not listed, and of one that was found before
+abbrev pub first_other : List (List ℕ) → Option (List ℕ) → List Attribute → Option (List ℕ)
+first_other listed found [] = found
+first_other listed found (a ∷ rest) = first_other listed (next_other listed found a) rest
+
+abbrev pub refused_other : Option (List ℕ) → Ask (Unit {0})
+refused_other None = Ok tt
+refused_other (Some name) = Err (refused 12 name)
+
+-- an element has none but the listed attributes
+unfoldable pub no_others : List (List ℕ) → List Attribute → Ask (Unit {0})
+no_others listed attributes = refused_other (first_other listed None attributes)
