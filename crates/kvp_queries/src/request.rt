@@ -1,5 +1,6 @@
 ghost use Rattle.std.specs.Prelude.{◌≡◌, [], ◌∷◌, IfOk};
 ghost use Rattle.wfs_ends.specs.Read.{GivesBut};
+ghost use Rattle.wfs_machine.specs.Step.{IsOfTypes};
 ghost use Rattle.wfs_machine.specs.declared.fault.AskFault.TheVariants.{OutOfMemory};
 ghost use Rattle.kvp_queries.specs.Request.{service_of, is_other_operation, operation_of, version_of, base_of, features_asked, features_of, asked_of};
 
@@ -100,7 +101,8 @@ fn features_asked(
     page: Page,
     found: Query,
 ) -> Mem<Request>
-    ensures { IfOk result (λ r. r ≡ features_asked query.now schema.now page found) }
+    ensures request { IfOk result (λ r. r ≡ features_asked query.now schema.now page found) }
+    ensures types { IfOk result (λ r. IsOfTypes schema.now r) }
 {
     let asked = one(alloc, Asked::Plain(found))?;
     let link = link_of(alloc, schema.address.as_str(), query.as_bytes())?;
@@ -120,7 +122,8 @@ fn features_of(
     schema: &Schema,
     given: &[(Text, Text)],
 ) -> Result<Request, AskFault>
-    ensures { GivesBut OutOfMemory (λ r. r) result (features_of query.now schema.now given.now) }
+    ensures read { GivesBut OutOfMemory (λ r. r) result (features_of query.now schema.now given.now) }
+    ensures types { IfOk result (λ r. IsOfTypes schema.now r) }
 {
     let page = page_of(alloc, given)?;
     let found = query_of(alloc, schema, given)?;
@@ -144,7 +147,8 @@ fn features_of(
 /// `OutOfMemory`: there is no memory for the request or the refusal.
 #[tactic(auto, unfolding(crate::specs::Request::asked_of))]
 pub fn read_query(alloc: Global, query: &str, schema: &Schema) -> Result<Request, AskFault>
-    ensures { GivesBut OutOfMemory (λ r. r) result (asked_of query.now schema.now) }
+    ensures read { GivesBut OutOfMemory (λ r. r) result (asked_of query.now schema.now) }
+    ensures types { IfOk result (λ r. IsOfTypes schema.now r) }
 {
     let given = given_of(alloc, query.as_bytes())?;
     base_of(alloc, &given)?;
