@@ -21,3 +21,6 @@ pub use plain::Plain;
 pub use reply::{Made, Refusal, Reply};
 pub use request::{Action, Asked, Entry, Present, Request};
 pub use terms::{is_format, is_listed, is_version, read_count, refused};
+
+#[cfg(test)]
+mod tests;
