@@ -1,11 +1,7 @@
-pub mod Fields
-pub mod Finish
-pub mod Heads
-pub mod Held
-pub mod Listening
-pub mod Numbers
-pub mod OneOutcome
+pub mod Filling
+pub mod Loads
+pub mod Replying
 pub mod Rounds
-pub mod Stated
-pub mod Turns
+pub mod Sessions
+pub mod Talks
 pub mod Two

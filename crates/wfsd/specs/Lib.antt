@@ -1,8 +1,8 @@
-pub mod Form
-pub mod Head
-pub mod Outcome
-pub mod Receive
-pub mod ReplyText
+pub mod Asks
+pub mod Loading
+pub mod Rounds
+pub mod Served
 pub mod Session
+pub mod Source
 pub mod Talk
 pub mod Words

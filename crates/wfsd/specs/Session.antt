@@ -1,128 +1,148 @@
--- What each part of a session does to its input and its output.
-use Rattle.std.specs.Prelude.{◌≡◌, ℕ, ◌+◌, ◌<◌, ◌⊎◌, Bool, true, false, List, [], ◌∷◌, ◌++◌, length, take, drop, Option, Some, None, Result, Ok, Err, IfSome, get_or, slice_get}
-use Rattle.std.specs.List.{list_all}
-use Rattle.wfs_ends.specs.Ends.{Shown, Rose, GivesAll, GivesFront}
-use Rattle.wfs_machine.specs.declared.request.Entry.{Entry}
-use Rattle.wfs_machine.specs.declared.reply.Reply.{Reply}
-use Rattle.wfsd.specs.declared.listen.Incoming.{Incoming}
-use Rattle.wfsd.specs.declared.listen.Incoming.TheVariants as incoming
-use Rattle.wfsd.specs.declared.judge.Judged.{Judged}
-use Rattle.wfsd.specs.declared.judge.Judged.TheVariants as judged
-use Rattle.wfsd.specs.declared.fault.Ending.{Ending}
-use Rattle.wfsd.specs.declared.fault.Ending.TheVariants as ending
-use Rattle.wfsd.specs.declared.fault.SessionFault.{SessionFault}
-use Rattle.wfsd.specs.declared.fault.SessionFault.TheVariants as fault
-use Rattle.wfsd.specs.declared.refusal.Refusal.TheVariants.{NotBuilt}
-use Rattle.wfsd.specs.Head.{is_line_byte, States}
-use Rattle.wfsd.specs.Receive.{Takes, Ends, Fails, IsAtEnd, IsShort}
-use Rattle.wfsd.specs.Outcome.{Framing, IsFramed, stated, other, open_head, Outcome, Answered, ComesTo}
-use Rattle.wfsd.specs.ReplyText.{refusal_text, refusal_closes, reply_text}
+-- What a session over one input and one output comes to.
+use Rattle.std.specs.Prelude.{◌≡◌, ℕ, ◌-◌, ◌≤◌, ◌==◌, Bool, true, false, List, [], ◌++◌, Option, Some, None, IfSome, slice_get, codes, ⊤}
+use Rattle.wfs_ends.specs.Ends.{Shown, Rose, AllGrow, given_more, later_of}
+use Rattle.http_session.specs.declared.message.Ending.{Ending}
+use Rattle.http_session.specs.declared.message.Ending.TheVariants as ending
+use Rattle.http_session.specs.declared.message.Message.{Message}
+use Rattle.http_session.specs.Frames.{Frame, message, ended, IsNext}
+use Rattle.http_session.specs.Answers.{interim, continue_line, Awaits, HasPlan}
+use Rattle.http_session.specs.Reading.{ahead}
+use Rattle.feature_values.specs.declared.schema.Schema.{Schema}
+use Rattle.reply_documents.specs.Refusals.{fixed_text}
+use Rattle.wfsd.specs.declared.ending.SessionEnd.{SessionEnd}
+use Rattle.wfsd.specs.declared.ending.SessionEnd.TheVariants as end
+use Rattle.wfsd.specs.Served.{Served, Answer, IsAnswer}
 
--- ---- listening
+-- how many messages a session has at most
+abbrev pub most_messages : ℕ
+most_messages = 1_000_000
 
--- some bytes of which this holds were taken
-pub record Took (P : List ℕ → Type 0) (old new : Shown) : Type 0 where
+-- How far a session has come: the bytes that are still to be judged, the moments still to come, the service, what was given, and
+-- how many messages may still come.
+pub record Point : Type 0 where
   pub bytes : List ℕ
-  pub takes : Takes old bytes new
-  pub is : P bytes
+  pub moments : List ℕ
+  pub served : Served
+  pub given : List ℕ
+  pub left : ℕ
 
--- the bytes are a head of the form and the whole body that it states
-pub record IsMessage (body bytes : List ℕ) : Type 0 where
-  pub head : ℕ
-  pub framed : IsFramed bytes (stated head (length body))
-  pub size : length bytes ≡ head + length body
-  pub behind : body ≡ drop head bytes
+-- the beginning of a session
+abbrev pub begun : List ℕ → List ℕ → Served → Point
+begun input moments served = record { bytes = input; moments = moments; served = served; given = []; left = most_messages }
 
--- the bytes are a head of the form and less than the body that it states
-pub record IsShortMessage (bytes : List ℕ) : Type 0 where
-  pub head : ℕ
-  pub body : ℕ
-  pub framed : IsFramed bytes (stated head body)
-  pub short : length bytes < head + body
+-- The next message is judged at the next moment, and answered, behind the line that asks for its body where that is due.
+pub record IsAnswered (p : Point) (a : Answer) (q : Point) : Type 0 where
+  pub sent : Message
+  pub due : Bool
+  pub rest : List ℕ
+  pub next : IsNext p.bytes (message sent due rest)
+  pub moment : ℕ
+  pub now : slice_get p.moments 0 ≡ Some moment
+  pub answer : IsAnswer p.served sent (p.left == 1) moment a
+  pub behind : q ≡ record { bytes = rest; moments = later_of p.moments; served = a.served; given = p.given ++ (interim due ++ a.text); left = p.left - 1 }
 
--- what listening for a message comes to
-abbrev pub IsIncoming : Shown → Incoming → Shown → Type 0
-IsIncoming old (incoming.Message body size) new = (size ≡ length body.items) × Took (IsMessage body.items) old new
-IsIncoming old incoming.Other new = Took (λ bytes. IsFramed bytes (other (length bytes))) old new
-IsIncoming old incoming.Nothing new = Took (λ bytes. IsFramed bytes open_head × (list_all is_line_byte bytes ≡ true)) old new × IsAtEnd new
-IsIncoming old incoming.Cut new = Took (λ bytes. (IsFramed bytes open_head × (list_all is_line_byte bytes ≡ false)) ⊎ IsShortMessage bytes) old new × IsAtEnd new
-IsIncoming old incoming.Fault new = Took (λ bytes. IsFramed bytes open_head ⊎ IsShortMessage bytes) old new × Rose old.failed_takes new.failed_takes
+-- some messages were answered, and no answer ended the session
+pub data Reaches (p : Point) : Point → Type 0 where
+  here : Reaches p p
+  on : (q r : Point) (a : Answer) → Reaches p q → IsAnswered q a r → a.ends ≡ None → Reaches p r
 
--- an input that ended before its head did
-abbrev pub IsEnded : List ℕ → Incoming → Type 0
-IsEnded bytes incoming.Nothing = list_all is_line_byte bytes ≡ true
-IsEnded bytes incoming.Cut = list_all is_line_byte bytes ≡ false
-IsEnded bytes (incoming.Message body size) = ⊥
-IsEnded bytes incoming.Other = ⊥
-IsEnded bytes incoming.Fault = ⊥
+-- what a session left behind: how it ended, what was given, and the service
+pub record Final : Type 0 where
+  pub end : SessionEnd
+  pub given : List ℕ
+  pub served : Served
 
--- less was taken than the body that the head states
-pub record IsShortBody (head : List ℕ) (old new : Shown) : Type 0 where
-  pub size : ℕ
-  pub states : States head (Some size)
-  pub short : IsShort old size new
+abbrev pub final : SessionEnd → Point → List ℕ → Final
+final e p text = record { end = e; given = p.given ++ text; served = p.served }
 
--- what listening behind a head comes to
-abbrev pub IsBehind : List ℕ → Shown → Incoming → Shown → Type 0
-IsBehind head old (incoming.Message body size) new = (size ≡ length body.items) × States head (Some (length body.items)) × Takes old body.items new
-IsBehind head old incoming.Other new = States head None × Takes old [] new
-IsBehind head old incoming.Nothing new = ⊥
-IsBehind head old incoming.Cut new = IsShortBody head old new × IsAtEnd new
-IsBehind head old incoming.Fault new = IsShortBody head old new × Rose old.failed_takes new.failed_takes
+-- the row by which an ending is refused, where it is no end of the input
+abbrev pub row_of : Ending → Option ℕ
+row_of ending.End = None
+row_of ending.Cut = None
+row_of ending.BadHead = Some 1
+row_of ending.TooLarge = Some 2
+row_of ending.NoLength = Some 3
+row_of ending.Coding = Some 4
 
--- ---- judging
+-- the bytes begin with these, which were taken
+pub record Begins (bytes taken : List ℕ) : Type 0 where
+  pub rest : List ℕ
+  pub parts : bytes ≡ taken ++ rest
 
--- what is answered to a message
-abbrev pub judged_text : Judged → List ℕ
-judged_text (judged.Refused refusal) = refusal_text refusal
-judged_text (judged.Done reply) = reply_text reply
+-- How a session ends at a point. The input ends, between two messages or within one; or it goes on in a way that is refused; or
+-- an answer ends the session. Or the input fails: what was taken of it holds no whole message. Or the output fails, within the
+-- line that asks for a body, within an answer, which stays carried out, or within a refusal. Or memory runs out while a message
+-- is read, which is refused, as far as the output takes that.
+pub data Finishes (p : Point) : Final → Type 0 where
+  input_ended : (due : Bool) → IsNext p.bytes (ended ending.End due) → Finishes p (final end.Ended p (interim due))
+  input_cut : (due : Bool) → IsNext p.bytes (ended ending.Cut due) → Finishes p (final end.Cut p (interim due))
+  refused : (e : Ending) (due : Bool) (row : ℕ) → IsNext p.bytes (ended e due) → row_of e ≡ Some row → Finishes p (final end.Unframed p (interim due ++ fixed_text row true))
+  answered : (a : Answer) (q : Point) (e : SessionEnd) → IsAnswered p a q → a.ends ≡ Some e → Finishes p (record { end = e; given = q.given; served = q.served })
+  read_failed : (taken : List ℕ) (due : Bool) → Begins p.bytes taken → Awaits taken due → Finishes p (final end.ReadFault p (interim due))
+  line_failed : (taken front : List ℕ) → Begins p.bytes taken → HasPlan taken true → Begins continue_line front → Finishes p (final end.WriteFault p front)
+  answer_failed : (a : Answer) (q : Point) (front : List ℕ) → IsAnswered p a q → Begins q.given (p.given ++ front) → Finishes p (record { end = end.WriteFault; given = p.given ++ front; served = q.served })
+  refusal_failed : (e : Ending) (due : Bool) (row : ℕ) (front : List ℕ) → IsNext p.bytes (ended e due) → row_of e ≡ Some row → Begins (fixed_text row true) front → Finishes p (final end.WriteFault p (interim due ++ front))
+  no_memory : (taken : List ℕ) (due : Bool) (front : List ℕ) → Begins p.bytes taken → (due ≡ true → HasPlan taken true) → Begins (fixed_text 27 true) front → Finishes p (final end.NoMemory p (interim due ++ front))
 
-abbrev pub judged_closes : Judged → Bool
-judged_closes (judged.Refused refusal) = refusal_closes refusal
-judged_closes (judged.Done reply) = false
+-- ---- the ends
 
--- a message was judged so, and this is the history
-abbrev pub judged_as : Judged → List Entry → Answered
-judged_as judged entries = record { text = judged_text judged; entries = entries; closes = judged_closes judged }
+-- counts never fall, and no borrow is exchanged
+pub record Stays (old new : Shown) : Type 0 where
+  pub takes : old.failed_takes ≤ new.failed_takes
+  pub puts : old.failed_puts ≤ new.failed_puts
+  pub place : new.place ≡ old.place
 
--- ---- the end of a session
+-- a fault's cause
+abbrev pub HasCause : SessionEnd → Shown → Shown → Type 0
+HasCause end.ReadFault old new = Rose old.failed_takes new.failed_takes
+HasCause end.WriteFault old new = Rose old.failed_puts new.failed_puts
+HasCause end.Ended old new = ⊤
+HasCause end.Closed old new = ⊤
+HasCause end.Unframed old new = ⊤
+HasCause end.Cut old new = ⊤
+HasCause end.NoMemory old new = ⊤
 
--- after an answer that does not end the session one more byte is asked for
-abbrev pub IsFollowed : Shown → Shown → Result Ending SessionFault → Shown → Shown → Type 0
-IsFollowed in_old out_old (Ok ending.Ended) in_new out_new = Ends in_old in_new × (out_new ≡ out_old)
-IsFollowed in_old out_old (Ok ending.Cut) in_new out_new = ⊥
-IsFollowed in_old out_old (Ok ending.Closed) in_new out_new =
-    (byte : ℕ) × Takes in_old (byte ∷ []) in_new × GivesAll out_old (refusal_text NotBuilt) out_new
-IsFollowed in_old out_old (Err fault.Read) in_new out_new = Fails in_old in_new × (out_new ≡ out_old)
-IsFollowed in_old out_old (Err fault.Write) in_new out_new =
-    (byte : ℕ) × Takes in_old (byte ∷ []) in_new × GivesFront out_old (refusal_text NotBuilt) out_new
-IsFollowed in_old out_old (Err fault.OutOfMemory) in_new out_new = ⊥
+-- a session on an input at these moments: what it came to, and what was given and kept of it
+pub record IsHeld (input moments : List ℕ) (served : Served) (old : Shown) (e : SessionEnd) (served' : Served) (new : Shown) : Type 0 where
+  pub point : Point
+  pub reaches : Reaches (begun input moments served) point
+  pub final : Final
+  pub finishes : Finishes point final
+  pub end : final.end ≡ e
+  pub given : new.given ≡ given_more old.given final.given
+  pub serves : final.served ≡ served'
 
--- a message was answered, and what came of it
-abbrev pub IsAnswered : Answered → Shown → Shown → Result Ending SessionFault → Shown → Shown → Type 0
-IsAnswered a in_old out_old (Ok ending.Ended) in_new out_new = (a.closes ≡ false) × Ends in_old in_new × GivesAll out_old a.text out_new
-IsAnswered a in_old out_old (Ok ending.Cut) in_new out_new = ⊥
-IsAnswered a in_old out_old (Ok ending.Closed) in_new out_new =
-    ((a.closes ≡ true) × (in_new ≡ in_old) × GivesAll out_old a.text out_new)
-    ⊎ ((a.closes ≡ false) × (byte : ℕ) × Takes in_old (byte ∷ []) in_new × GivesAll out_old (a.text ++ refusal_text NotBuilt) out_new)
-IsAnswered a in_old out_old (Err fault.Read) in_new out_new = (a.closes ≡ false) × Fails in_old in_new × GivesAll out_old a.text out_new
-IsAnswered a in_old out_old (Err fault.Write) in_new out_new =
-    ((in_new ≡ in_old) × GivesFront out_old a.text out_new)
-    ⊎ ((a.closes ≡ false) × (byte : ℕ) × Takes in_old (byte ∷ []) in_new × GivesFront out_old (a.text ++ refusal_text NotBuilt) out_new)
-IsAnswered a in_old out_old (Err fault.OutOfMemory) in_new out_new = ⊥
+-- where the input and the clock tell
+abbrev pub WhereTold : Option (List ℕ) → Shown → (List ℕ → List ℕ → Type 0) → Type 0
+WhereTold moments old P = IfSome moments (λ ms. IfSome old.left (λ input. P input ms))
 
--- a round: a message was answered, and this is the history
-abbrev pub IsRound : Answered → Shown → Shown → Result Ending SessionFault → Shown → Shown → List Entry → Type 0
-IsRound a in_old out_old (Ok ending) in_new out_new entries = IsAnswered a in_old out_old (Ok ending) in_new out_new × (entries ≡ a.entries)
-IsRound a in_old out_old (Err fault.Read) in_new out_new entries = IsAnswered a in_old out_old (Err fault.Read) in_new out_new × (entries ≡ a.entries)
-IsRound a in_old out_old (Err fault.Write) in_new out_new entries = IsAnswered a in_old out_old (Err fault.Write) in_new out_new × (entries ≡ a.entries)
-IsRound a in_old out_old (Err fault.OutOfMemory) in_new out_new entries = (out_new ≡ out_old) × (entries ≡ [])
+-- a session
+pub record IsSession (moments : Option (List ℕ)) (served : Served) (old : Shown) (e : SessionEnd) (served' : Served) (new : Shown) : Type 0 where
+  pub cause : HasCause e old new
+  pub place : new.place ≡ old.place
+  pub told : WhereTold moments old (λ input ms. IsHeld input ms served old e served' new)
 
--- a message of another form is refused, which ends the session
-abbrev pub IsRefused : Shown → Result Ending SessionFault → Shown → Type 0
-IsRefused out_old (Ok ending.Closed) out_new = GivesAll out_old (refusal_text NotBuilt) out_new
-IsRefused out_old (Ok ending.Ended) out_new = ⊥
-IsRefused out_old (Ok ending.Cut) out_new = ⊥
-IsRefused out_old (Err fault.Write) out_new = GivesFront out_old (refusal_text NotBuilt) out_new
-IsRefused out_old (Err fault.Read) out_new = ⊥
-IsRefused out_old (Err fault.OutOfMemory) out_new = ⊥
+-- ---- rounds
+
+-- the reader, the link, the clock and the service stand at a point of a session, behind what was given before it
+pub record IsAt (first : Option (List ℕ)) (p : Point) (buffered : List ℕ) (shown : Shown) (moments : Option (List ℕ)) (served : Served) (left : ℕ) : Type 0 where
+  pub bytes : ahead buffered shown ≡ Some p.bytes
+  pub coming : moments ≡ Some p.moments
+  pub serves : served ≡ p.served
+  pub given : shown.given ≡ given_more first p.given
+  pub remains : left ≡ p.left
+
+-- where a round leads: on to the next point, or to an end
+pub record GoesOn (first : Option (List ℕ)) (p : Point) (buffered : List ℕ) (shown : Shown) (moments : Option (List ℕ)) (served : Served) (left : ℕ) : Type 0 where
+  pub answer : Answer
+  pub to : Point
+  pub answered : IsAnswered p answer to
+  pub unended : answer.ends ≡ None
+  pub at : IsAt first to buffered shown moments served left
+
+pub record IsOver (first : Option (List ℕ)) (p : Point) (e : SessionEnd) (shown : Shown) (served : Served) : Type 0 where
+  pub final : Final
+  pub finishes : Finishes p final
+  pub end : final.end ≡ e
+  pub given : shown.given ≡ given_more first final.given
+  pub serves : final.served ≡ served

@@ -1,110 +1,103 @@
--- What a session over one input and one output leaves behind.
-use Rattle.std.specs.Prelude.{◌≡◌, ℕ, ◌≤◌, ◌⊎◌, List, [], ◌++◌, drop, codes, Option, Some, None, Result, Ok, Err, IfSome, slice_get, ⊤}
-use Rattle.wfs_ends.specs.Ends.{Shown, Rose, GivesAll, GivesFront}
-use Rattle.wfs_machine.specs.declared.request.Entry.{Entry}
-use Rattle.wfsd.specs.declared.fault.Ending.{Ending}
-use Rattle.wfsd.specs.declared.fault.Ending.TheVariants as ending
-use Rattle.wfsd.specs.declared.fault.SessionFault.{SessionFault}
-use Rattle.wfsd.specs.declared.fault.SessionFault.TheVariants as fault
-use Rattle.wfsd.specs.Outcome.{Outcome, ComesTo}
-use Rattle.wfsd.specs.ReplyText.{refusal_text}
+-- What the program comes to.
+use Rattle.std.specs.Prelude.{◌≡◌, ℕ, ◌⊎◌, nat_lt, if◌then◌else◌, List, [], ◌∷◌, ◌++◌, length, codes, Option, Some, None, Result, Ok, Err, IfSome}
+use Rattle.wfs_ends.specs.Ends.{Shown, Rose, GivesAll, GivesFront, both, joined}
+use Rattle.feature_values.specs.declared.schema.Schema.{Schema}
+use Rattle.feature_schema.specs.declared.fault.SchemaFault.{SchemaFault}
+use Rattle.feature_schema.specs.declared.fault.SchemaFault.TheVariants as schema_fault
+use Rattle.feature_schema.specs.File.{schema_of}
+use Rattle.wfsd.specs.declared.ending.SessionEnd.{SessionEnd}
+use Rattle.wfsd.specs.declared.ending.SessionEnd.TheVariants as end
+use Rattle.wfsd.specs.Served.{Served}
+use Rattle.wfsd.specs.Session.{IsSession}
 use Rattle.wfsd.specs.Words.{IsTalk}
-use Rattle.wfsd.specs.declared.refusal.Refusal.TheVariants.{NoMemory}
 
--- the ends of a session: before and after it
-pub record Ends : Type 0 where
-  pub in_old : Shown
-  pub in_new : Shown
-  pub out_old : Shown
-  pub out_new : Shown
+-- ---- the schema
 
--- The whole outcome of the input: its status, its text and its history, and just the bytes that it takes were taken.
-pub record IsWhole (input : List ℕ) (moment status : ℕ) (ends : Ends) (entries : List Entry) : Type 0 where
-  pub outcome : Outcome
-  pub comes : ComesTo input moment outcome
-  pub status_is : status ≡ outcome.status
-  pub given : GivesAll ends.out_old outcome.output ends.out_new
-  pub history : entries ≡ outcome.entries
-  pub left : ends.in_new.left ≡ Some (drop outcome.taken input)
+-- how many bytes a schema has at most
+abbrev pub most_bytes : ℕ
+most_bytes = 1_048_576
 
--- The input failed: what was taken of it was answered, as if it had ended there, and no answer had closed the session.
-pub record IsUpToFault (input : List ℕ) (moment : ℕ) (ends : Ends) (entries : List Entry) : Type 0 where
-  pub taken : List ℕ
-  pub rest : List ℕ
-  pub parts : input ≡ taken ++ rest
-  pub left : ends.in_new.left ≡ Some rest
-  pub outcome : Outcome
-  pub comes : ComesTo taken moment outcome
-  pub unclosed : (outcome.status ≡ 0) ⊎ (outcome.status ≡ 10)
-  pub given : GivesAll ends.out_old outcome.output ends.out_new
-  pub history : entries ≡ outcome.entries
+-- the schema of a source's bytes, or what is wrong first with them; a source with too many bytes is not read to its end
+unfoldable pub loaded : List ℕ → Result Schema SchemaFault
+loaded bytes = if nat_lt most_bytes (length bytes) then Err schema_fault.TooMany else schema_of bytes
 
--- The output failed: a front of the outcome's text was given, the history is the outcome's, and no more of the input was
--- taken than the outcome takes.
-pub record IsCutShort (input : List ℕ) (moment : ℕ) (ends : Ends) (entries : List Entry) : Type 0 where
-  pub outcome : Outcome
-  pub comes : ComesTo input moment outcome
-  pub given : GivesFront ends.out_old outcome.output ends.out_new
-  pub history : entries ≡ outcome.entries
-  pub taken : ℕ
-  pub within : taken ≤ outcome.taken
-  pub left : ends.in_new.left ≡ Some (drop taken input)
+-- a fault by its name, and what it names
+abbrev pub fault_text : SchemaFault → List ℕ
+fault_text schema_fault.NotToml = codes "NotToml"
+fault_text (schema_fault.Key key) = codes "Key " ++ key
+fault_text (schema_fault.Kind name) = codes "Kind " ++ name
+fault_text (schema_fault.Twice name) = codes "Twice " ++ name
+fault_text schema_fault.TooMany = codes "TooMany"
+fault_text schema_fault.OutOfMemory = codes "OutOfMemory"
 
--- the status of an ending
-abbrev pub status_of : Ending → ℕ
-status_of ending.Ended = 0
-status_of ending.Cut = 10
-status_of ending.Closed = 12
+unfoldable pub refused_line : SchemaFault → List ℕ
+refused_line fault = joined (codes "wfsd: schema refused: " ∷ fault_text fault ∷ codes "\n" ∷ [])
 
--- what a session comes to on an input that is told
-abbrev pub IsHeld : List ℕ → ℕ → Result Ending SessionFault → Ends → List Entry → Type 0
-IsHeld input moment (Ok ending) ends entries = IsWhole input moment (status_of ending) ends entries
-IsHeld input moment (Err fault.Read) ends entries = IsUpToFault input moment ends entries
-IsHeld input moment (Err fault.Write) ends entries = IsCutShort input moment ends entries
-IsHeld input moment (Err fault.OutOfMemory) ends entries = (ends.out_new ≡ ends.out_old) × (entries ≡ [])
-
--- a fault's cause, and what the want of memory leaves
-abbrev pub HasCause : Result Ending SessionFault → Ends → List Entry → Type 0
-HasCause (Ok ending) ends entries = ⊤
-HasCause (Err fault.Read) ends entries = Rose ends.in_old.failed_takes ends.in_new.failed_takes
-HasCause (Err fault.Write) ends entries = Rose ends.out_old.failed_puts ends.out_new.failed_puts
-HasCause (Err fault.OutOfMemory) ends entries = (ends.out_new ≡ ends.out_old) × (entries ≡ [])
-
--- a session, where the clock and the input may tell
-pub record IsSession (moments : Option (List ℕ)) (ends : Ends) (result : Result Ending SessionFault) (entries : List Entry) : Type 0 where
-  pub cause : HasCause result ends entries
-  pub told : IfSome moments (λ ms. IfSome ends.in_old.left (λ input. (moment : ℕ) → slice_get ms 0 ≡ Some moment → IsHeld input moment result ends entries))
-
--- ---- the whole session
-
--- what holds of the input and the moment, where the input and the clock tell
-abbrev pub WhereTold : Option (List ℕ) → Ends → (List ℕ → ℕ → Type 0) → Type 0
-WhereTold moments ends P = IfSome moments (λ ms. IfSome ends.in_old.left (λ input. (moment : ℕ) → slice_get ms 0 ≡ Some moment → P input moment))
+-- ---- the ends
 
 -- this text was given, or a front of it and then the output failed
 abbrev pub GivesOr : Shown → List ℕ → Shown → Type 0
 GivesOr old text new = GivesAll old text new ⊎ GivesFront old text new
 
--- What a session comes to, by its status. 0, 10 and 12: the whole outcome of the input. 4 and 7: the input or the output
--- failed, and its count rose. 8: memory ran out, and nothing was carried out.
-pub data Talks (status : ℕ) (moments : Option (List ℕ)) (ends : Ends) (entries : List Entry) : Type 0 where
-  whole : (ending : Ending) → status ≡ status_of ending → WhereTold moments ends (λ input moment. IsWhole input moment status ends entries) → Talks status moments ends entries
-  read_failed : status ≡ 4 → Rose ends.in_old.failed_takes ends.in_new.failed_takes → WhereTold moments ends (λ input moment. IsUpToFault input moment ends entries) → Talks status moments ends entries
-  write_failed : status ≡ 7 → Rose ends.out_old.failed_puts ends.out_new.failed_puts → WhereTold moments ends (λ input moment. IsCutShort input moment ends entries) → Talks status moments ends entries
-  no_memory : status ≡ 8 → GivesOr ends.out_old (refusal_text NoMemory) ends.out_new → entries ≡ [] → Talks status moments ends entries
+-- the ends of the program, before and after it
+pub record Ends : Type 0 where
+  pub schema_old : Shown
+  pub schema_new : Shown
+  pub in_old : Shown
+  pub in_new : Shown
+  pub out_old : Shown
+  pub out_new : Shown
 
--- ---- the program
+-- the input and the output as one link
+abbrev pub link_old : Ends → Shown
+link_old ends = both ends.in_old ends.out_old
 
--- the line of words that are refused
-abbrev pub bad_words : List ℕ
-bad_words = codes "wfsd: bad words\n"
+abbrev pub link_new : Ends → Shown
+link_new ends = both ends.in_new ends.out_new
+
+-- the input was not touched, and one line was given, or a front of it
+abbrev pub OnlySays : Ends → List ℕ → Type 0
+OnlySays ends line = (ends.in_new ≡ ends.in_old) × GivesOr ends.out_old line ends.out_new
+
+-- ---- a session
+
+-- the status of a session's end
+abbrev pub status_of : SessionEnd → ℕ
+status_of end.Ended = 0
+status_of end.Closed = 0
+status_of end.Unframed = 12
+status_of end.Cut = 10
+status_of end.ReadFault = 4
+status_of end.WriteFault = 7
+status_of end.NoMemory = 8
+
+-- what a session by a schema comes to: it was held, or memory ran out before
+pub record HeldBy (schema : Schema) (status : ℕ) (moments : Option (List ℕ)) (old new : Shown) (desk : Option Served) : Type 0 where
+  pub served : Served
+  pub end : SessionEnd
+  pub is_desk : desk ≡ Some served
+  pub is_status : status ≡ status_of end
+  pub session : IsSession moments (record { schema = schema; entries = [] }) old end served new
+
+pub record NotHeld (status : ℕ) (in_old in_new out_old out_new : Shown) (desk : Option Served) : Type 0 where
+  pub is_desk : desk ≡ None
+  pub is_status : status ≡ 8
+  pub input : in_new ≡ in_old
+  pub says : GivesOr out_old (codes "wfsd: no memory\n") out_new
+
+abbrev pub IsTalkOver : Schema → ℕ → Option (List ℕ) → Shown → Shown → Shown → Shown → Shown → Shown → Option Served → Type 0
+IsTalkOver schema status moments old new in_old in_new out_old out_new desk = HeldBy schema status moments old new desk ⊎ NotHeld status in_old in_new out_old out_new desk
+
+-- What a session over the schema's source, the input and the output comes to. The schema is read first: it is refused (3), or
+-- its source fails (4), or memory runs out before the session (8). Else one session is held, whose end gives the status.
+pub data Talks (status : ℕ) (moments : Option (List ℕ)) (ends : Ends) (desk : Option Served) : Type 0 where
+  held : (schema : Schema) (served : Served) (e : SessionEnd) → IfSome ends.schema_old.left (λ bytes. loaded bytes ≡ Ok schema) → desk ≡ Some served → status ≡ status_of e
+      → IsSession moments (record { schema = schema; entries = [] }) (link_old ends) e served (link_new ends) → Talks status moments ends desk
+  schema_refused : (fault : SchemaFault) → IfSome ends.schema_old.left (λ bytes. loaded bytes ≡ Err fault) → desk ≡ None → status ≡ 3 → OnlySays ends (refused_line fault) → Talks status moments ends desk
+  schema_failed : Rose ends.schema_old.failed_takes ends.schema_new.failed_takes → desk ≡ None → status ≡ 4 → OnlySays ends (codes "wfsd: cannot read\n") → Talks status moments ends desk
+  no_memory : desk ≡ None → status ≡ 8 → OnlySays ends (codes "wfsd: no memory\n") → Talks status moments ends desk
 
 -- What the program comes to, by its words: a session, or status 2 and a line.
-pub data Runs (words : List (List ℕ)) (status : ℕ) (moments : Option (List ℕ)) (ends : Ends) (entries : List Entry) : Type 0 where
-  talks : IsTalk words → Talks status moments ends entries → Runs words status moments ends entries
-  refuses : (IsTalk words → ⊥) → status ≡ 2 → ends.in_new ≡ ends.in_old → GivesOr ends.out_old bad_words ends.out_new → entries ≡ [] → Runs words status moments ends entries
-
--- the history of a desk, where there is one
-abbrev pub entries_of : Option (List Entry) → List Entry
-entries_of None = []
-entries_of (Some entries) = entries
+pub data Runs (words : List (List ℕ)) (status : ℕ) (moments : Option (List ℕ)) (ends : Ends) (desk : Option Served) : Type 0 where
+  talks : IsTalk words → Talks status moments ends desk → Runs words status moments ends desk
+  refuses : (IsTalk words → ⊥) → status ≡ 2 → ends.schema_new ≡ ends.schema_old → OnlySays ends (codes "wfsd: bad words\n") → desk ≡ None → Runs words status moments ends desk

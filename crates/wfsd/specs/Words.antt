@@ -12,3 +12,10 @@ IsTalk [] = ⊥
 IsTalk (command ∷ []) = ⊥
 IsTalk (command ∷ folder ∷ []) = (command ≡ codes "talk") × IsFolder folder
 IsTalk (command ∷ folder ∷ more ∷ words) = ⊥
+
+-- the folder, where the words are two
+abbrev pub directory_of : List (List ℕ) → List ℕ
+directory_of [] = []
+directory_of (command ∷ []) = []
+directory_of (command ∷ folder ∷ []) = folder
+directory_of (command ∷ folder ∷ more ∷ words) = []

@@ -1,16 +1,22 @@
-ghost use Rattle.std.specs.Prelude.{◌≡◌, [], IsSome};
-ghost use Rattle.wfs_ends.specs.Ends.{Shown};
-ghost use Rattle.wfsd.specs.ReplyText.{refusal_text};
-ghost use Rattle.wfsd.specs.Talk.{Talks, GivesOr, entries_of, status_of};
+//! One session over a schema, an input and an output.
+
+ghost use Rattle.std.specs.Prelude.{◌≡◌, [], None, IfOk};
+ghost use Rattle.wfs_ends.specs.Ends.{both};
+ghost use Rattle.wfsd.specs.Session.{IsSession};
+ghost use Rattle.wfsd.specs.Talk.{Talks, IsTalkOver, GivesOr, status_of};
 
 use crate::desk::Desk;
-use crate::fault::{Ending, SessionFault};
-use crate::refusal::{Refusal, put_refusal};
+use crate::ending::SessionEnd;
+use crate::load::{Unloaded, load_schema, say_refused};
 use crate::session::hold;
+use feature_values::Schema;
+use http_session::Reader;
 use std::alloc::Global;
-use wfs_ends::{Buffer, Clock, Sink, Source};
+use wfs_ends::{Buffer, Clock, Joined, Mem, OutOfMemory, Sink, Source, put_all};
 
-/// The input failed.
+/// The schema is refused.
+pub const SCHEMA_REFUSED: u8 = 3;
+/// The schema's source failed, or the input.
 pub const READ_FAULT: u8 = 4;
 /// The output failed, where no other status came first.
 pub const WRITE_FAULT: u8 = 7;
@@ -26,72 +32,144 @@ pub struct Done {
     pub desk: Option<Desk>,
 }
 
-/// Holds one session over an input and an output: reads one message, answers it, and asks for one
-/// more byte.
+/// Holds one session: reads the schema, and then message after message from the input, and answers
+/// each to the output.
 ///
-/// The status is 0 where the input was read to its end after an answer, or held nothing but line
-/// ends; 10 where it ended within a message; 12 where an answer closed the session; 4 and 7 where
-/// the input or the output failed; and 8 where memory ran out.
-pub fn talk<I: Source, O: Sink, C: Clock>(
+/// The status is 0 where the input was read to its end, or an answer closed the session; 3 where the
+/// schema is refused; 4 where its source or the input failed; 7 where the output failed; 8 where memory
+/// ran out; 10 where the input ended within a message; and 12 where a refusal closed the session. For 3,
+/// for 4 before the session and for 8 before it one line is written.
+pub fn talk<Q: Source, I: Source, O: Sink, C: Clock>(
     alloc: Global,
+    schema: &mut Q,
     input: &mut I,
     out: &mut O,
     clock: &mut C,
 ) -> Done
-    ensures { Talks result.status (C.moments clock.old) (record { in_old = I.source input.old; in_new = I.source input.new; out_old = O.sink out.old; out_new = O.sink out.new }) (entries_of result.desk) }
+    ensures { Talks result.status (C.moments clock.old) (record { schema_old = Q.source schema.old; schema_new = Q.source schema.new; in_old = I.source input.old; in_new = I.source input.new; out_old = O.sink out.old; out_new = O.sink out.new }) result.desk }
 {
-    let (Ok(mut desk), Ok(mut buffer)) = (Desk::new(alloc), Buffer::new(alloc)) else {
-        give_no_memory(out);
-        return Done {
-            status: OUT_OF_MEMORY,
-            desk: None,
-        };
-    };
-    let status = converse(alloc, input, out, &mut buffer, clock, &mut desk);
-    Done {
-        status,
-        desk: Some(desk),
-    }
-}
-
-// Holds a session at a desk that took up none yet, and answers its status.
-fn converse<I: Source, O: Sink, C: Clock>(
-    alloc: Global,
-    input: &mut I,
-    out: &mut O,
-    buffer: &mut Buffer,
-    clock: &mut C,
-    desk: &mut Desk,
-) -> u8
-    requires fresh { desk.old ≡ [] }
-    ensures { Talks result (C.moments clock.old) (record { in_old = I.source input.old; in_new = I.source input.new; out_old = O.sink out.old; out_new = O.sink out.new }) desk.new }
-{
-    match hold(alloc, input, out, buffer, clock, desk) {
-        Ok(ending) => status_of(&ending),
-        Err(SessionFault::Read) => READ_FAULT,
-        Err(SessionFault::Write) => WRITE_FAULT,
-        Err(SessionFault::OutOfMemory) => {
-            give_no_memory(out);
-            OUT_OF_MEMORY
+    match load_schema(alloc, schema) {
+        Ok(schema) => talk_over(alloc, schema, input, out, clock),
+        Err(Unloaded::Refused(fault)) => {
+            say_refused(out, &fault);
+            ended_early(SCHEMA_REFUSED)
+        }
+        Err(Unloaded::Failed) => {
+            say(out, b"wfsd: cannot read\n");
+            ended_early(READ_FAULT)
+        }
+        Err(Unloaded::OutOfMemory) => {
+            say(out, b"wfsd: no memory\n");
+            ended_early(OUT_OF_MEMORY)
         }
     }
 }
 
-// The status of an ending.
-fn status_of(ending: &Ending) -> u8
-    ensures { result ≡ status_of ending.now }
+/// What is left where no session was held.
+pub fn ended_early(status: u8) -> Done
+    ensures status { result.status ≡ status }
+    ensures desk { result.desk ≡ None }
 {
-    match ending {
-        Ending::Ended => 0,
-        Ending::Cut => 10,
-        Ending::Closed => 12,
+    Done { status, desk: None }
+}
+
+/// Gives a line. A fault of the output changes nothing.
+pub fn say<O: Sink>(out: &mut O, line: &[u8])
+    ensures { GivesOr (O.sink out.old) line.now (O.sink out.new) }
+{
+    let _ = put_all(out, line);
+}
+
+// What a session is held with, and the memory that it takes when it begins.
+#[derive(Drop)]
+struct Desks {
+    desk: Desk,
+    reader: Reader,
+    buffer: Buffer,
+}
+
+// Takes the memory of a session.
+fn open(alloc: Global, schema: Schema) -> Mem<Desks>
+    ensures desk { IfOk result (λ d. d.desk ≡ record { schema = schema; entries = [] }) }
+    ensures reader { IfOk result (λ d. d.reader ≡ []) }
+{
+    Ok(Desks {
+        desk: Desk::new(alloc, schema)?,
+        reader: Reader::new(alloc)?,
+        buffer: Buffer::new(alloc)?,
+    })
+}
+
+// Holds a session by a schema.
+fn talk_over<I: Source, O: Sink, C: Clock>(
+    alloc: Global,
+    schema: Schema,
+    input: &mut I,
+    out: &mut O,
+    clock: &mut C,
+) -> Done
+    ensures { IsTalkOver schema result.status (C.moments clock.old) (both (I.source input.old) (O.sink out.old)) (both (I.source input.new) (O.sink out.new)) (I.source input.old) (I.source input.new) (O.sink out.old) (O.sink out.new) result.desk }
+{
+    match open(alloc, schema) {
+        Ok(
+            Desks {
+                mut desk,
+                mut reader,
+                mut buffer,
+            },
+        ) => {
+            let end = converse(
+                alloc,
+                input,
+                out,
+                clock,
+                &mut desk,
+                &mut reader,
+                &mut buffer,
+            );
+            Done {
+                status: status_of(end),
+                desk: Some(desk),
+            }
+        }
+        Err(OutOfMemory) => {
+            say(out, b"wfsd: no memory\n");
+            ended_early(OUT_OF_MEMORY)
+        }
     }
 }
 
-// Says that memory ran out. A fault of the output changes nothing: the status is that of the want
-// of memory.
-fn give_no_memory<O: Sink>(out: &mut O)
-    ensures { GivesOr (O.sink out.old) (refusal_text Refusal.NoMemory) (O.sink out.new) }
+// Holds a session over the input and the output as one link.
+#[tactic(auto, using(crate::proofs::Talks::session_lent))]
+fn converse<I: Source, O: Sink, C: Clock>(
+    alloc: Global,
+    input: &mut I,
+    out: &mut O,
+    clock: &mut C,
+    desk: &mut Desk,
+    reader: &mut Reader,
+    buffer: &mut Buffer,
+) -> SessionEnd
+    requires fresh { reader.old ≡ [] }
+    ensures { IsSession (C.moments clock.old) desk.old (both (I.source input.old) (O.sink out.old)) result desk.new (both (I.source input.new) (O.sink out.new)) }
 {
-    let _ = put_refusal(Refusal::NoMemory, out);
+    let mut link = Joined {
+        source: input,
+        sink: out,
+    };
+    hold(alloc, &mut link, clock, desk, reader, buffer)
+}
+
+// The status of a session's end.
+fn status_of(end: SessionEnd) -> u8
+    ensures { result ≡ status_of end }
+{
+    match end {
+        SessionEnd::Ended | SessionEnd::Closed => 0,
+        SessionEnd::Unframed => 12,
+        SessionEnd::Cut => 10,
+        SessionEnd::ReadFault => READ_FAULT,
+        SessionEnd::WriteFault => WRITE_FAULT,
+        SessionEnd::NoMemory => OUT_OF_MEMORY,
+    }
 }

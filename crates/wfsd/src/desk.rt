@@ -1,62 +1,78 @@
-ghost use Rattle.std.specs.Prelude.{◌≡◌, ◌++◌, ◌∷◌, [], length, OnOk, OnErr, IfOk};
+ghost use Rattle.std.specs.Prelude.{◌≡◌, length, IfOk, OnErr};
+ghost use Rattle.wfsd.specs.Served.{entry_of, size_of};
 
+use crate::asks::{read_asked, split_target};
+use feature_values::Schema;
+use http_session::Message;
 use std::alloc::Global;
 use std::marker::Model;
-use wfs_ends::Mem;
-use wfs_machine::{Entry, Plain, Reply};
+use wfs_ends::{Mem, OutOfMemory};
+use wfs_machine::{AskFault, Entry, Plain, Refusal, Reply, Request};
 
 /// The service of one process: the machine, and the history of the entries that it took. Contracts
-/// see it as that history, over the state of the first opening; the machine is always in the state
-/// that the history leaves.
+/// see it as its schema and that history, over the state of the first opening; the machine is
+/// always in the state that the history leaves.
 #[derive(Drop)]
 pub struct Desk {
+    schema: Schema,
     machine: Plain,
     history: Vec<Entry>,
 }
 
 impl Model for Desk {
-    ghost use Rattle.std.specs.Prelude.{List, ◌≡◌, length};
-    ghost use Rattle.wfs_machine.specs.declared.request.Entry.{Entry};
-    ghost use Rattle.wfs_machine.specs.State.{first_state};
-    ghost use Rattle.wfs_machine.specs.History.{after};
+    ghost use Rattle.std.specs.Prelude.{◌≡◌};
+    ghost use Rattle.wfs_machine.specs.State.{Machine};
+    ghost use Rattle.std.specs.Coded.{codes};
+    ghost use Rattle.fes_filter.specs.contracts.filter.Filter as filter;
+    ghost use Rattle.wfsd.specs.Served.{Served, state_of};
 
-    ghost Value = { List Entry };
+    ghost Value = { Served };
 
-    ghost view = { λ d. d.history.items };
+    ghost coded = { Prim.hlevel (codes, filter.the_row.coded) };
 
-    ghost invariant = { λ d. d.machine ≡ after first_state d.history.items (length d.history.items) };
+    ghost view = { λ d. record { schema = d.schema; entries = d.history.items } };
+
+    ghost invariant = { λ d. d.machine ≡ record { schema = d.schema; state = state_of (record { schema = d.schema; entries = d.history.items }) } };
 }
 
 impl Desk {
-    ghost use Rattle.wfs_machine.specs.declared.request.Entry.{Entry};
-    ghost use Rattle.wfs_machine.specs.State.{first_state};
-    ghost use Rattle.wfs_machine.specs.History.{after, reply_after, timed};
-    ghost use Rattle.wfs_machine.specs.Step.{IsOfTypes};
+    ghost use Rattle.std.specs.Prelude.{[]};
+    ghost use Rattle.wfs_machine.specs.Step.{IsOfTypes, read};
+    ghost use Rattle.wfs_machine.specs.History.{IsChange, timed};
+    ghost use Rattle.wfsd.specs.Served.{Served, Judged, state_of, entered, entry_of, carried, judged};
 
     /// The service of the first opening, with no entry.
-    pub fn new(alloc: Global) -> Mem<Desk>
-        ensures { IfOk result (λ d. d ≡ []) }
+    pub fn new(alloc: Global, schema: Schema) -> Mem<Desk>
+        ensures { IfOk result (λ d. d ≡ record { schema = schema; entries = [] }) }
     {
+        let machine = Plain::new(alloc, schema.copy(alloc)?)?;
         Ok(Desk {
-            machine: Plain::new(alloc)?,
+            schema,
+            machine,
             history: Vec::new(alloc),
         })
     }
 
+    /// The schema that it serves.
+    pub fn schema(&self) -> &Schema
+        ensures { result.now ≡ self.now.schema }
+    {
+        &self.schema
+    }
+
     /// How many entries the history has.
     pub fn entries(&self) -> u64
-        ensures { result ≡ length self.now }
+        ensures { result ≡ length self.now.entries }
     {
         self.history.len() as u64
     }
 
-    /// Takes an entry up: the entry's moment becomes the one at which the service carries it out,
-    /// never before the last one, the machine takes its step, and the entry joins the history.
-    /// Where memory runs out, the history is as before.
-    pub fn take_up(&mut self, entry: Entry) -> Mem<Reply>
-        requires { IsOfTypes entry.request }
-        ensures ok { OnOk result (self.new ≡ self.old ++ timed (after first_state self.old (length self.old)) entry ∷ []) }
-        ensures reply { IfOk result (λ reply. reply ≡ reply_after first_state self.old (timed (after first_state self.old (length self.old)) entry)) }
+    // Takes an entry up: the entry's moment becomes the one at which the service carries it out,
+    // never before the last one, the machine takes its step, and the entry joins the history.
+    fn take_up(&mut self, entry: Entry) -> Mem<Reply>
+        requires types { IsOfTypes self.old.schema entry.request }
+        requires change { IsChange entry.request }
+        ensures ok { IfOk result (λ reply. record { reply = reply; served = self.new } ≡ entered self.old (timed (state_of self.old) entry)) }
         ensures err { OnErr result (self.new ≡ self.old) }
     {
         self.history.reserve(1)?;
@@ -68,4 +84,60 @@ impl Desk {
             Err(_) => unreachable!(),
         }
     }
+
+    // Carries a request out that a message asked.
+    #[tactic(auto, unfolding(crate::specs::Served::carried, crate::specs::Served::entry_of))]
+    fn carry_out(&mut self, message: &Message, moment: u64, request: Request) -> Mem<Reply>
+        requires types { IsOfTypes self.old.schema request }
+        ensures ok { IfOk result (λ reply. record { reply = reply; served = self.new } ≡ carried self.old message.now moment request) }
+        ensures err { OnErr result (self.new ≡ self.old) }
+    {
+        if request.is_change() {
+            let entry = entry_of(message, moment, request);
+            self.take_up(entry)
+        } else {
+            self.machine.read(moment, &request)
+        }
+    }
+
+    /// Judges a message that comes at a moment, and carries out what it asks. Where memory runs out,
+    /// nothing was done.
+    #[tactic(auto, unfolding(crate::specs::Served::judged))]
+    pub fn judge(&mut self, alloc: Global, message: &Message, moment: u64) -> Mem<Reply>
+        ensures ok { IfOk result (λ reply. record { reply = reply; served = self.new } ≡ judged self.old message.now moment) }
+        ensures err { OnErr result (self.new ≡ self.old) }
+    {
+        match read_asked(alloc, message, &self.schema) {
+            Ok(request) => self.carry_out(message, moment, request),
+            Err(AskFault::Refused(refusal)) => Ok(Reply::Refused(refusal)),
+            Err(AskFault::OutOfMemory) => Err(OutOfMemory),
+        }
+    }
+}
+
+// The entry of a request that a message asked, of the one seat there is.
+#[tactic(auto, unfolding(crate::specs::Served::entry_of))]
+fn entry_of(message: &Message, moment: u64, request: Request) -> Entry
+    ensures { result ≡ entry_of request message.now moment }
+{
+    Entry {
+        seat: 0,
+        moment,
+        size: size_of(message),
+        request,
+    }
+}
+
+// The length of the query or the document that asked.
+#[tactic(auto, unfolding(crate::specs::Served::size_of))]
+fn size_of(message: &Message) -> u32
+    ensures { result ≡ size_of message.now }
+{
+    let length = if message.method.as_str() == "GET" {
+        let (_, query) = split_target(message.target.as_str());
+        query.len()
+    } else {
+        message.body.items().len()
+    };
+    length.min(u32::MAX as usize) as u32
 }

@@ -1,43 +1,36 @@
 //! `wfsd`: a Web Feature Service (OGC 09-025r2) whose answers are those of one serial history.
 //!
-//! So far it holds one session over the standard input and output: it reads one message, a
-//! transaction that inserts marks, and answers it.
+//! So far it holds one session over the standard input and output: it reads the schema of its folder, and then message
+//! after message, transactions that insert features and queries of features, and answers each.
 #![tactic(auto)]
 
-mod answer;
+mod asks;
 mod conversation;
 mod desk;
-mod fault;
-mod form;
-mod head;
-mod judge;
-mod laws;
-mod listen;
+mod ending;
+mod load;
 mod program;
-mod receive;
-mod refusal;
+mod round;
 mod session;
-mod transacted;
+mod source;
 mod words;
 
 pub use conversation::{Done, talk};
 pub use desk::Desk;
-pub use laws::one_outcome;
+pub use ending::SessionEnd;
 pub use program::wfsd;
 
 #[cfg(test)]
 mod tests;
 
+use std::alloc::Global;
 use std::env;
 use std::process::ExitCode;
-use wfs_ends::{ReadEnd, RealClock, StandardInput, StandardOutput, WriteEnd};
+use wfs_ends::{InputFile, Mem, ReadEnd, RealClock, StandardInput, StandardOutput, Text, WriteEnd};
 
 /// Makes the real ends, and leaves the rest to `wfsd`. Words that are no text are refused as none.
 fn main(rt: HostRuntime) -> ExitCode {
     let alloc = rt.alloc();
-    let mut input = ReadEnd::of(StandardInput::of(&rt));
-    let mut out = WriteEnd::of(StandardOutput::of(&rt));
-    let mut clock = RealClock::of(&rt);
     let mut words = Vec::new(alloc);
     if let Ok(all) = env::args(&rt) {
         for word in all.skip(1) {
@@ -46,6 +39,21 @@ fn main(rt: HostRuntime) -> ExitCode {
             }
         }
     }
-    let done = wfsd(alloc, &words, &mut input, &mut out, &mut clock);
+    let Ok(path) = schema_path(alloc, words::directory(&words)) else {
+        return ExitCode::from(conversation::OUT_OF_MEMORY);
+    };
+    let mut schema = ReadEnd::of(InputFile::of(&rt, path));
+    let mut input = ReadEnd::of(StandardInput::of(&rt));
+    let mut out = WriteEnd::of(StandardOutput::of(&rt));
+    let mut clock = RealClock::of(&rt);
+    let done = wfsd(alloc, &words, &mut schema, &mut input, &mut out, &mut clock);
     ExitCode::from(done.status)
+}
+
+// The path of the schema in a folder.
+fn schema_path(alloc: Global, directory: &str) -> Mem<Text> {
+    let mut path = String::new(alloc);
+    path.push_str(directory)?;
+    path.push_str("/schema.toml")?;
+    Ok(Text::of_string(path))
 }

@@ -1,96 +1,37 @@
-ghost use Rattle.std.specs.Prelude.{◌≡◌, [], List, length};
-ghost use Rattle.wfsd.specs.Outcome.{answered};
-ghost use Rattle.wfsd.specs.Session.{judged_as, IsFollowed, IsAnswered, IsRound, IsRefused};
-ghost use Rattle.wfsd.specs.Talk.{IsSession};
-ghost use Rattle.wfs_machine.specs.declared.request.Entry.{Entry};
+//! One session: message after message is read and answered.
+
+ghost use Rattle.std.specs.Prelude.{◌≡◌, []};
+ghost use Rattle.wfsd.specs.Session.{IsSession};
 
 use crate::desk::Desk;
-use crate::fault::{Ending, SessionFault};
-use crate::judge::{Judged, closes, give_judged, judge};
-use crate::listen::{Incoming, listen};
-use crate::receive::{Taken, take_byte};
-use crate::refusal::{Refusal, give_refusal};
+use crate::ending::SessionEnd;
+use crate::round::{Round, hold_round};
+use http_session::Reader;
 use std::alloc::Global;
-use wfs_ends::{Buffer, Clock, Sink, Source};
+use wfs_ends::{Buffer, Clock, Link};
 
-/// One session: listens for one message, answers it, and asks for one more byte.
-pub fn hold<I: Source, O: Sink, C: Clock>(
+/// How many messages a session has at most. The answer to the last one closes it.
+const MOST_MESSAGES: u32 = 1_000_000;
+
+/// Holds a session over a link: reads its messages, and answers each, until the input ends, or an
+/// answer, a refusal or a fault ends the session.
+pub fn hold<L: Link, C: Clock>(
     alloc: Global,
-    input: &mut I,
-    out: &mut O,
-    buffer: &mut Buffer,
+    link: &mut L,
     clock: &mut C,
     desk: &mut Desk,
-) -> Result<Ending, SessionFault>
-    requires fresh { desk.old ≡ [] }
-    ensures { IsSession (C.moments clock.old) (record { in_old = I.source input.old; in_new = I.source input.new; out_old = O.sink out.old; out_new = O.sink out.new }) result desk.new }
+    reader: &mut Reader,
+    buffer: &mut Buffer,
+) -> SessionEnd
+    requires fresh { reader.old ≡ [] }
+    ensures { IsSession (C.moments clock.old) desk.old (L.Source.source link.old) result desk.new (L.Source.source link.new) }
 {
-    match listen(alloc, input)? {
-        Incoming::Message { body, size } => {
-            let moment = clock.now();
-            answer(alloc, &body, size, moment, input, out, buffer, desk)
+    let mut left = MOST_MESSAGES;
+    while left > 0 {
+        match hold_round(alloc, left == 1, link, clock, desk, reader, buffer) {
+            Round::On => left -= 1,
+            Round::Over(end) => return end,
         }
-        Incoming::Other => refuse(out, buffer),
-        Incoming::Nothing => Ok(Ending::Ended),
-        Incoming::Cut => Ok(Ending::Cut),
-        Incoming::Fault => Err(SessionFault::Read),
     }
-}
-
-// Refuses a message of another form.
-fn refuse<O: Sink>(out: &mut O, buffer: &mut Buffer) -> Result<Ending, SessionFault>
-    ensures { IsRefused (O.sink out.old) result (O.sink out.new) }
-{
-    give_refusal(Refusal::NotBuilt, out, buffer)?;
-    Ok(Ending::Closed)
-}
-
-// Answers a message, and goes on where the answer does not end the session.
-fn answer<I: Source, O: Sink>(
-    alloc: Global,
-    body: &[u8],
-    size: u32,
-    moment: u64,
-    input: &mut I,
-    out: &mut O,
-    buffer: &mut Buffer,
-    desk: &mut Desk,
-) -> Result<Ending, SessionFault>
-    requires fresh { desk.old ≡ [] }
-    requires size { size ≡ length body.now }
-    ensures { IsRound (answered body.now moment) (I.source input.old) (O.sink out.old) result (I.source input.new) (O.sink out.new) desk.new }
-{
-    let judged = judge(alloc, body, size, moment, desk)?;
-    go_on(&judged, input, out, buffer)
-}
-
-// Gives the answer to a message, and goes on where it does not end the session.
-fn go_on<I: Source, O: Sink>(
-    judged: &Judged,
-    input: &mut I,
-    out: &mut O,
-    buffer: &mut Buffer,
-) -> Result<Ending, SessionFault>
-    ensures { (entries : List Entry) → IsAnswered (judged_as judged.now entries) (I.source input.old) (O.sink out.old) result (I.source input.new) (O.sink out.new) }
-{
-    give_judged(judged, out, buffer)?;
-    if closes(judged) {
-        return Ok(Ending::Closed);
-    }
-    follow(input, out, buffer)
-}
-
-// Asks for one more byte, and refuses what begins with it.
-fn follow<I: Source, O: Sink>(
-    input: &mut I,
-    out: &mut O,
-    buffer: &mut Buffer,
-) -> Result<Ending, SessionFault>
-    ensures { IsFollowed (I.source input.old) (O.sink out.old) result (I.source input.new) (O.sink out.new) }
-{
-    match take_byte(input) {
-        Taken::End => Ok(Ending::Ended),
-        Taken::Fault => Err(SessionFault::Read),
-        Taken::Byte(_) => refuse(out, buffer),
-    }
+    unreachable!()
 }

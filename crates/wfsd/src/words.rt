@@ -1,6 +1,6 @@
-ghost use Rattle.std.specs.Prelude.{◌↔◌, IsTrue, map};
+ghost use Rattle.std.specs.Prelude.{◌≡◌, ◌↔◌, IsTrue, map};
 ghost use Rattle.std.specs.String.{string_bytes};
-ghost use Rattle.wfsd.specs.Words.{IsTalk, IsFolder};
+ghost use Rattle.wfsd.specs.Words.{IsTalk, IsFolder, directory_of};
 
 /// Whether the words are `talk` and a folder.
 pub fn is_talk(words: &[String]) -> bool
@@ -19,5 +19,15 @@ fn is_folder(word: &str) -> bool
     match word.as_bytes() {
         [] => false,
         [first, ..] => *first != b'-',
+    }
+}
+
+/// The folder that the words name, or the empty text where they are not two.
+pub fn directory(words: &[String]) -> &str
+    ensures { result.now ≡ directory_of (map string_bytes words.now) }
+{
+    match words {
+        [_, folder] => folder.as_str(),
+        _ => "",
     }
 }

@@ -1,7 +1,0 @@
-use Rattle.wfs_ends.proofs.Writing.{wrote_steps}
-use Rattle.wfsd.specs.ReplyText.{status_line}
-use Rattle.wfsd.proofs.answer.put_status.Goals as goal
-
-pub returns : goal.returns
-unfolding status_line
-returns g c = rw (← c.phrase_of.ensures, ← c.number_of.ensures) (search wrote_steps depth 12)

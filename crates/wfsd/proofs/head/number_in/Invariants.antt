@@ -1,7 +1,0 @@
-use Rattle.std.proofs.Common.{◌≡◌, ◌≤◌, take}
-use Rattle.std.specs.Str.Parse.{digits_value}
-use Rattle.wfsd.specs.Head.{max_body}
-use Rattle.wfsd.proofs.head.number_in.Given as goal
-
-abbrev pub invariant-loop-digit : goal.invariant-loop-digit
-invariant-loop-digit l = record { value : l.number ≡ digits_value 10 (take l.digit-index l.digits); small : l.number ≤ max_body }

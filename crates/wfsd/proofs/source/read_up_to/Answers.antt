@@ -1,0 +1,7 @@
+use Rattle.std.proofs.Common.{◌≡◌, ◌≤◌, ◌∙◌, ◌+◌, length, take, rules, arith}
+use Rattle.std.proofs.lemmas.List.{length-take-le}
+use Rattle.wfsd.proofs.Filling.{longer, whole}
+use Rattle.wfsd.proofs.source.read_up_to.Goals as goal
+
+pub returns-in-Whole : goal.returns-in-Whole
+returns-in-Whole g c = longer c.fill.new.bytes c.args.most _ _ (search rules) c.in-Whole.ensures.filled

@@ -1,8 +1,0 @@
-use Rattle.std.proofs.Common.{take}
-use Rattle.std.specs.List.{flat_map}
-use Rattle.wfs_ends.specs.Ends.{Writes}
-use Rattle.wfsd.specs.ReplyText.{made_text}
-use Rattle.wfsd.proofs.transacted.put_made_list.Given as goal
-
-abbrev pub invariant-loop-feature : goal.invariant-loop-feature
-invariant-loop-feature g l = Writes (record { shown = g.S.Sink.sink l.fn.sink; failed = l.fn.failed }) (flat_map made_text (take l.feature-index l.feature-items)) (record { shown = g.S.Sink.sink l.sink; failed = l.failed })

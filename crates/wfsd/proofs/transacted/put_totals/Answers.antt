@@ -1,7 +1,0 @@
-use Rattle.wfs_ends.proofs.Writing.{wrote_steps}
-use Rattle.wfsd.specs.ReplyText.{totals_text}
-use Rattle.wfsd.proofs.transacted.put_totals.Goals as goal
-
-pub returns : goal.returns
-unfolding totals_text
-returns g c = rw (← c.count.ensures, ← c.count-2.ensures, ← c.count-3.ensures) (search wrote_steps depth 12)
