@@ -2,7 +2,7 @@
 -- stands; its listed attributes, in the order of the list; other attributes in no namespace, of which the first by name is
 -- refused; its children in document order; and then the children that are missing. The first refusal is the answer.
 -- Attributes of namespaces are not looked at, nor is text beside child elements.
-use Rattle.std.specs.Prelude.{ℕ, Bool, true, false, ◌&&◌, not, if◌then◌else◌, List, [], ◌∷◌, codes, Option, Some, None, Result, Ok, Err}
+use Rattle.std.specs.Prelude.{◌||◌, ℕ, Bool, true, false, ◌&&◌, not, if◌then◌else◌, List, [], ◌∷◌, codes, Option, Some, None, Result, Ok, Err}
 use Rattle.std.specs.Str.{bytes_eq}
 use Rattle.std.specs.Ordering.{nat_cmp}
 use Rattle.std.specs.Cmp.Lexicographic.{slice_cmp}
@@ -52,6 +52,13 @@ service_at attributes = needed (codes "service") (λ value. bytes_eq value (code
 -- the version of the service
 unfoldable pub version_at : List Attribute → Ask (Unit {0})
 version_at attributes = allowed (codes "version") is_version (value_in (codes "version") attributes)
+
+-- how a lock is released; without a lock it changes nothing
+abbrev pub is_release : List ℕ → Bool
+is_release text = bytes_eq text (codes "ALL") || bytes_eq text (codes "SOME")
+
+unfoldable pub release_at : List Attribute → Ask (Unit {0})
+release_at attributes = allowed (codes "releaseAction") is_release (value_in (codes "releaseAction") attributes)
 
 -- the format of the features that come in
 unfoldable pub format_at : List Attribute → Ask (Unit {0})

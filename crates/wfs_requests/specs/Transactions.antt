@@ -13,7 +13,7 @@ use Rattle.wfs_machine.specs.declared.request.Action.TheVariants.{Insert}
 use Rattle.wfs_machine.specs.declared.request.Request.{Request}
 use Rattle.wfs_machine.specs.declared.request.Request.TheVariants.{Transact}
 use Rattle.wfs_machine.specs.Terms.{refused}
-use Rattle.wfs_requests.specs.Attributes.{Ask, local_of, attributes_of, value_in, service_at, version_at, format_at, srs_at, not_built, unbuilt_at, no_others}
+use Rattle.wfs_requests.specs.Attributes.{Ask, local_of, attributes_of, value_in, service_at, version_at, release_at, format_at, srs_at, not_built, unbuilt_at, no_others}
 use Rattle.wfs_requests.specs.Features.{feature_of}
 
 -- the namespace of the Web Feature Service 2.0
@@ -82,7 +82,7 @@ transaction_of schema e = do
   _ ← service_at (attributes_of e)
   _ ← version_at (attributes_of e)
   _ ← unbuilt_at (codes "lockId") (attributes_of e)
-  _ ← unbuilt_at (codes "releaseAction") (attributes_of e)
+  _ ← release_at (attributes_of e)
   _ ← srs_at schema.srs (attributes_of e)
   _ ← transaction_others (attributes_of e)
   actions ← each (next_action schema) [] (out-Element e).children

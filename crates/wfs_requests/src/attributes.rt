@@ -4,7 +4,7 @@ ghost use Rattle.std.specs.List.{list_any};
 ghost use Rattle.std.specs.Str.{bytes_eq};
 ghost use Rattle.wfs_ends.specs.Read.{GivesBut};
 ghost use Rattle.gml_docs.specs.Elements.{is_name, is_among};
-ghost use Rattle.wfs_requests.specs.Attributes.{value_at, value_in, service_at, version_at, format_at, srs_at, not_built, unbuilt_at, is_other, first_name, next_other, first_other, no_others};
+ghost use Rattle.wfs_requests.specs.Attributes.{value_at, value_in, service_at, version_at, release_at, format_at, srs_at, not_built, unbuilt_at, is_other, first_name, next_other, first_other, no_others};
 
 use doc_tree::{Attribute, QName};
 use std::alloc::Global;
@@ -93,6 +93,21 @@ pub(crate) fn version_at(alloc: Global, attributes: &[Attribute]) -> Result<(), 
                 return Ok(());
             }
             Err(refused(alloc, 11, "version"))
+        }
+    }
+}
+
+#[tactic(auto, unfolding(crate::specs::Attributes::release_at))]
+pub(crate) fn release_at(alloc: Global, attributes: &[Attribute]) -> Result<(), AskFault>
+    ensures { GivesBut AskFault.OutOfMemory (λ x. x) result (release_at attributes.now) }
+{
+    match value_in(attributes, "releaseAction") {
+        None => Ok(()),
+        Some(value) => {
+            if value.as_str() == "ALL" || value.as_str() == "SOME" {
+                return Ok(());
+            }
+            Err(refused(alloc, 11, "releaseAction"))
         }
     }
 }

@@ -4,8 +4,8 @@ ghost use Rattle.wfs_machine.specs.Step.{IsOfTypes, IsActionOfTypes};
 ghost use Rattle.wfs_requests.specs.Transactions.{is_wfs, is_wfs_among, next_feature, insert_others, insert_of, is_later_action, action_of, next_action, transaction_others, transaction_of, is_later_operation, request_of};
 
 use crate::attributes::{
-    format_at, is_among, is_name, no_others, not_built, service_at, srs_at, text_at, unbuilt_at,
-    version_at,
+    format_at, is_among, is_name, no_others, not_built, release_at, service_at, srs_at, text_at,
+    unbuilt_at, version_at,
 };
 use crate::features::feature_of;
 use doc_tree::{Attribute, Element};
@@ -193,7 +193,7 @@ fn transaction_of(alloc: Global, schema: &Schema, element: &Element) -> Result<R
     service_at(alloc, attributes)?;
     version_at(alloc, attributes)?;
     unbuilt_at(alloc, attributes, "lockId")?;
-    unbuilt_at(alloc, attributes, "releaseAction")?;
+    release_at(alloc, attributes)?;
     srs_at(alloc, attributes, schema.srs.items())?;
     transaction_others(alloc, attributes)?;
     let actions = actions_of(alloc, schema, element.children.items())?;
@@ -237,8 +237,8 @@ fn is_later_operation(element: &Element) -> bool
 ///
 /// - A root of the service's namespace of another operation is row 99 with `stage`, and any other root row 9 with its
 ///   local name.
-/// - A Transaction has `service` (required; `WFS`), `version` (`2.0.0` or `2.0.2`), `handle`, `lockId` and
-///   `releaseAction` (row 99 with `stage`) and `srsName` (one of the schema's). An Update, Replace or Delete is row 99 with
+/// - A Transaction has `service` (required; `WFS`), `version` (`2.0.0` or `2.0.2`), `handle`, `lockId`
+///   (row 99 with `stage`), `releaseAction` (`ALL` or `SOME`, which changes nothing yet) and `srsName` (one of the schema's). An Update, Replace or Delete is row 99 with
 ///   `stage`, a Native row 12 with `Native`, and any other child but an Insert row 8 with its local name.
 /// - An Insert has `handle`, `inputFormat` (GML 3.2) and `srsName`, and one or more features, else row 8 with `Insert`.
 /// - A feature is an element of the schema's namespace with the name of a type, and its children are properties of the
