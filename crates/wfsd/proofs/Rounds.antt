@@ -18,7 +18,7 @@ use Rattle.wfsd.specs.declared.ending.SessionEnd.TheVariants as end
 use Rattle.wfsd.specs.declared.round.Round.{Round}
 use Rattle.wfsd.specs.declared.round.Round.TheVariants as round
 use Rattle.wfsd.specs.Served.{Served, Answer, IsAnswer, given_answer, refused_for_memory, judged, end_by, is_not_built}
-use Rattle.wfsd.specs.Session.{Point, IsAnswered, Final, final, row_of, Begins, Finishes, input_ended, input_cut, refused, answered, read_failed, line_failed, answer_failed, refusal_failed, no_memory, Stays, HasCause, IsAt, GoesOn, IsOver}
+use Rattle.wfsd.specs.Session.{Point, IsAnswered, Final, final, final_at, row_of, Begins, Finishes, input_ended, input_cut, refused, answered, read_failed, line_failed, answer_failed, refusal_failed, no_memory, memory_failed, Stays, HasCause, IsAt, GoesOn, IsOver}
 use Rattle.wfsd.specs.Rounds.{GivesAnswer, Replies, HasGone, RoundCause, IsRound, round_of, IsRefused, IsGivenUp}
 
 -- ---- answers
@@ -115,20 +115,22 @@ module _ (served : Served) (last : Bool) (b : List ℕ) (s0 : Shown) (m : Messag
 
       is_over : (e : SessionEnd) → GivesAll s1 replies.answer.text s2 → replies.answer.ends ≡ Some e → IsOver first p e s2 served'
       is_over e g is = record {
-        final = record { end = e; given = p.given ++ (interim reads.due ++ replies.answer.text); served = replies.answer.served };
+        final = record { end = e; given = p.given ++ (interim reads.due ++ replies.answer.text); served = replies.answer.served; leaves = None };
         finishes = answered replies.answer (behind p reads.due found.0 replies.answer) e is_answered is;
         end = refl;
         given = all_given g;
         serves = sym replies.serves;
+        left = tt;
       }
 
       failed : GivesFront s1 replies.answer.text s2 → IsOver first p end.WriteFault s2 served'
       failed g = record {
-        final = record { end = end.WriteFault; given = p.given ++ (interim reads.due ++ g.front); served = replies.answer.served };
+        final = record { end = end.WriteFault; given = p.given ++ (interim reads.due ++ g.front); served = replies.answer.served; leaves = None };
         finishes = answer_failed replies.answer (behind p reads.due found.0 replies.answer) (interim reads.due ++ g.front) is_answered (record { rest = g.rest; parts = front_begins p.given (interim reads.due) replies.answer.text g.front g.rest g.parts });
         end = refl;
         given = given_behind first s0.given s1.given s2.given p.given (interim reads.due) g.front at.given reads.written g.given;
         serves = sym replies.serves;
+        left = tt;
       }
 
   pub answered_round : (r : Result (Option SessionEnd) WriteFault) (served' : Served) (c' : Option (List ℕ)) (s2 : Shown) → Replies served m last c s1 r served' c' s2 → IsRound last b s0 c served (round_of r) b' s2 c' served'
@@ -154,12 +156,18 @@ abbrev inside : Option (List ℕ) → List ℕ
 inside None = []
 inside (Some xs) = xs
 
-begins_at : (bytes taken : List ℕ) (left : Option (List ℕ)) → Some bytes ≡ after_buffer taken left → Begins bytes taken
-begins_at bytes taken None e = absurd cc
-begins_at bytes taken (Some rest) e = record { rest = rest; parts = ap inside e }
+-- what is left behind the bytes that were taken
+pub record Parted (bytes taken : List ℕ) (left : Option (List ℕ)) : Type 0 where
+  pub rest : List ℕ
+  pub parts : bytes ≡ taken ++ rest
+  pub is : left ≡ Some rest
 
-begins : (bytes : List ℕ) (ahead : Option (List ℕ)) (after : Shown) (r : Reached ahead after) → ahead ≡ Some bytes → Begins bytes r.taken
-begins bytes ahead after r e = begins_at bytes r.taken after.left (sym e ∙ r.parts)
+parted_at : (bytes taken : List ℕ) (left : Option (List ℕ)) → Some bytes ≡ after_buffer taken left → Parted bytes taken left
+parted_at bytes taken None e = absurd cc
+parted_at bytes taken (Some rest) e = record { rest = rest; parts = ap inside e; is = refl }
+
+parted : (bytes : List ℕ) (ahead : Option (List ℕ)) (after : Shown) (r : Reached ahead after) → ahead ≡ Some bytes → Parted bytes r.taken after.left
+parted bytes ahead after r e = parted_at bytes r.taken after.left (sym e ∙ r.parts)
 
 module _ (served : Served) (last : Bool) (b : List ℕ) (s0 : Shown) (b' : List ℕ) (s1 : Shown) (c : Option (List ℕ)) where
   pub ended_round : Reads b s0 next.End b' s1 → IsRound last b s0 c served (round.Over end.Ended) b' s1 c served
@@ -172,6 +180,7 @@ module _ (served : Served) (last : Bool) (b : List ℕ) (s0 : Shown) (b' : List 
       end = refl;
       given = given_line first s0.given s1.given p.given (interim reads.due) at.given reads.written;
       serves = sym at.serves;
+      left = tt;
     };
   }
 
@@ -185,6 +194,7 @@ module _ (served : Served) (last : Bool) (b : List ℕ) (s0 : Shown) (b' : List 
       end = refl;
       given = given_line first s0.given s1.given p.given (interim reads.due) at.given reads.written;
       serves = sym at.serves;
+      left = tt;
     };
   }
 
@@ -192,26 +202,32 @@ module _ (served : Served) (last : Bool) (b : List ℕ) (s0 : Shown) (b' : List 
   read_failed_round reads = record {
     stays = record { takes = reads.stays.takes; puts = reads.stays.puts; place = reads.stays.place };
     cause = reads.written.1;
-    told = λ first p left is_last at. record {
-      final = final end.ReadFault p (interim reads.due);
-      finishes = read_failed reads.breaks.0.taken reads.due (begins p.bytes _ s1 reads.breaks.0 at.bytes) reads.breaks.1;
-      end = refl;
-      given = given_line first s0.given s1.given p.given (interim reads.due) at.given reads.written.0;
-      serves = sym at.serves;
-    };
+    told = λ first p left is_last at.
+        let behind = parted p.bytes _ s1 reads.breaks.0 at.bytes in
+        record {
+          final = final_at end.ReadFault p (interim reads.due) behind.rest;
+          finishes = read_failed reads.breaks.0.taken behind.rest reads.due behind.parts reads.breaks.1;
+          end = refl;
+          given = given_line first s0.given s1.given p.given (interim reads.due) at.given reads.written.0;
+          serves = sym at.serves;
+          left = behind.is;
+        };
   }
 
   pub line_failed_round : Reads b s0 next.WriteFault b' s1 → IsRound last b s0 c served (round.Over end.WriteFault) b' s1 c served
   line_failed_round reads = let gave = reads.written.1 in record {
     stays = record { takes = reads.stays.takes; puts = reads.stays.puts; place = reads.stays.place };
     cause = gave.cause;
-    told = λ first p left is_last at. record {
-      final = final end.WriteFault p gave.front;
-      finishes = line_failed reads.breaks.0.taken gave.front (begins p.bytes _ s1 reads.breaks.0 at.bytes) reads.breaks.1 (record { rest = gave.rest; parts = gave.parts });
-      end = refl;
-      given = given_line first s0.given s1.given p.given gave.front at.given gave.given;
-      serves = sym at.serves;
-    };
+    told = λ first p left is_last at.
+        let behind = parted p.bytes _ s1 reads.breaks.0 at.bytes in
+        record {
+          final = final_at end.WriteFault p gave.front behind.rest;
+          finishes = line_failed reads.breaks.0.taken behind.rest gave.front behind.parts reads.breaks.1 (record { rest = gave.rest; parts = gave.parts });
+          end = refl;
+          given = given_line first s0.given s1.given p.given gave.front at.given gave.given;
+          serves = sym at.serves;
+          left = behind.is;
+        };
   }
 
   module _ (e : Ending) (row : ℕ) (is_row : row_of e ≡ Some row) (due : Bool) (is_next : IfSome (ahead b s0) (λ bytes. IsNext bytes (ended e due))) (written : s1.given ≡ given_more s0.given (interim due)) (takes : s0.failed_takes ≤ s1.failed_takes) (puts : s0.failed_puts ≤ s1.failed_puts) (place : s1.place ≡ s0.place) where
@@ -225,6 +241,7 @@ module _ (served : Served) (last : Bool) (b : List ℕ) (s0 : Shown) (b' : List 
         end = refl;
         given = given_behind first s0.given s1.given s2.given p.given (interim due) (fixed_text row true) at.given written g.given;
         serves = sym at.serves;
+        left = tt;
       };
     }
     refused_round (round.Over end.WriteFault) s2 g = record {
@@ -236,6 +253,7 @@ module _ (served : Served) (last : Bool) (b : List ℕ) (s0 : Shown) (b' : List 
         end = refl;
         given = given_behind first s0.given s1.given s2.given p.given (interim due) g.front at.given written g.given;
         serves = sym at.serves;
+        left = tt;
       };
     }
     refused_round (round.Over end.Ended) s2 g = absurd g
@@ -246,22 +264,38 @@ module _ (served : Served) (last : Bool) (b : List ℕ) (s0 : Shown) (b' : List 
     refused_round round.On s2 g = absurd g
 
   module _ (reads : Reads b s0 next.OutOfMemory b' s1) where
-    gave_up : (s2 : Shown) (front : List ℕ) → Begins (fixed_text 27 true) front → s2.given ≡ given_more s1.given front → KeepsLeft s1 s2 → IsRound last b s0 c served (round.Over end.NoMemory) b' s2 c served
-    gave_up s2 front is_front given keeps = record {
-      stays = stays_on s0 s1 s2 reads.stays.takes reads.stays.puts reads.stays.place keeps;
-      cause = tt;
-      told = λ first p left is_last at. record {
-        final = final end.NoMemory p (interim reads.due ++ front);
-        finishes = no_memory reads.breaks.0.taken reads.due front (begins p.bytes _ s1 reads.breaks.0 at.bytes) reads.breaks.1 is_front;
-        end = refl;
-        given = given_behind first s0.given s1.given s2.given p.given (interim reads.due) front at.given reads.written given;
-        serves = sym at.serves;
-      };
-    }
-
-    by_gift : (s2 : Shown) → GivesAll s1 (fixed_text 27 true) s2 ⊎ GivesFront s1 (fixed_text 27 true) s2 → IsRound last b s0 c served (round.Over end.NoMemory) b' s2 c served
-    by_gift s2 (inl g) = gave_up s2 (fixed_text 27 true) (record { rest = []; parts = sym (append-nil (fixed_text 27 true)) }) g.given g.keeps
-    by_gift s2 (inr g) = gave_up s2 g.front (record { rest = g.rest; parts = g.parts }) g.given g.keeps
-
     pub gave_up_round : (r : Round) (s2 : Shown) → IsGivenUp s1 r s2 → IsRound last b s0 c served r b' s2 c served
-    gave_up_round r s2 g = rw g.0 (by_gift s2 g.1)
+    gave_up_round (round.Over end.NoMemory) s2 g = record {
+      stays = stays_on s0 s1 s2 reads.stays.takes reads.stays.puts reads.stays.place g.keeps;
+      cause = tt;
+      told = λ first p left is_last at.
+          let behind = parted p.bytes _ s1 reads.breaks.0 at.bytes in
+          record {
+            final = final_at end.NoMemory p (interim reads.due ++ fixed_text 27 true) behind.rest;
+            finishes = no_memory reads.breaks.0.taken behind.rest reads.due behind.parts reads.breaks.1;
+            end = refl;
+            given = given_behind first s0.given s1.given s2.given p.given (interim reads.due) (fixed_text 27 true) at.given reads.written g.given;
+            serves = sym at.serves;
+            left = g.keeps.left ∙ behind.is;
+          };
+    }
+    gave_up_round (round.Over end.WriteFault) s2 g = record {
+      stays = stays_on s0 s1 s2 reads.stays.takes reads.stays.puts reads.stays.place g.keeps;
+      cause = omega (arith, reads.stays.puts, g.cause);
+      told = λ first p left is_last at.
+          let behind = parted p.bytes _ s1 reads.breaks.0 at.bytes in
+          record {
+            final = final_at end.WriteFault p (interim reads.due ++ g.front) behind.rest;
+            finishes = memory_failed reads.breaks.0.taken behind.rest reads.due g.front behind.parts reads.breaks.1 (record { rest = g.rest; parts = g.parts });
+            end = refl;
+            given = given_behind first s0.given s1.given s2.given p.given (interim reads.due) g.front at.given reads.written g.given;
+            serves = sym at.serves;
+            left = g.keeps.left ∙ behind.is;
+          };
+    }
+    gave_up_round (round.Over end.Ended) s2 g = absurd g
+    gave_up_round (round.Over end.Closed) s2 g = absurd g
+    gave_up_round (round.Over end.Unframed) s2 g = absurd g
+    gave_up_round (round.Over end.Cut) s2 g = absurd g
+    gave_up_round (round.Over end.ReadFault) s2 g = absurd g
+    gave_up_round round.On s2 g = absurd g

@@ -82,5 +82,5 @@ module _ (c0 : Option (List ℕ)) (first : Served) (s0 : Shown) (b : List ℕ) (
     place = (stays_twice s0 s s' way.stays r.stays).place;
     told = told_map c0 s0 (λ input ms stands.
         let over = r.told s0.given stands.point left refl stands.at in
-        record { point = stands.point; reaches = stands.reaches; final = over.final; finishes = over.finishes; end = over.end; given = over.given; serves = over.serves }) way.told;
+        record { point = stands.point; reaches = stands.reaches; final = over.final; finishes = over.finishes; end = over.end; given = over.given; serves = over.serves; left = over.left }) way.told;
   }

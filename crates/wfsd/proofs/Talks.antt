@@ -42,7 +42,7 @@ pub session_lent : (moments : Option (List ℕ)) (served served' : Served) (e : 
 session_lent moments served served' e a b c d old new s = record {
   cause = cause_lent e a b c d old new s.cause;
   place = ap behind_two s.place;
-  told = told_map moments old (λ input ms held. record { point = held.point; reaches = held.reaches; final = held.final; finishes = held.finishes; end = held.end; given = held.given; serves = held.serves }) s.told;
+  told = told_map moments old (λ input ms held. record { point = held.point; reaches = held.reaches; final = held.final; finishes = held.finishes; end = held.end; given = held.given; serves = held.serves; left = held.left }) s.told;
 }
 
 -- a session by a schema that was read

@@ -1,5 +1,5 @@
 -- What a round of a session does.
-use Rattle.std.specs.Prelude.{◌≡◌, ℕ, ◌-◌, ◌==◌, ◌⊎◌, Bool, true, false, List, Option, Some, None, IfSome, Result, Ok, Err, slice_get}
+use Rattle.std.specs.Prelude.{◌≡◌, ℕ, ◌-◌, ◌==◌, Bool, true, false, List, Option, Some, None, IfSome, Result, Ok, Err, slice_get}
 use Rattle.wfs_ends.specs.Ends.{Shown, GivesAll, GivesFront, later}
 use Rattle.wfs_ends.specs.declared.fault.WriteFault.{WriteFault}
 use Rattle.http_session.specs.declared.message.Message.{Message}
@@ -58,6 +58,13 @@ IsRefused row old (round.Over end.ReadFault) new = ⊥
 IsRefused row old (round.Over end.NoMemory) new = ⊥
 IsRefused row old round.On new = ⊥
 
--- that memory ran out was said, or a front of that
+-- that memory ran out was said, or a front of that was given
 abbrev pub IsGivenUp : Shown → Round → Shown → Type 0
-IsGivenUp old r new = (r ≡ round.Over end.NoMemory) × (GivesAll old (fixed_text 27 true) new ⊎ GivesFront old (fixed_text 27 true) new)
+IsGivenUp old (round.Over end.NoMemory) new = GivesAll old (fixed_text 27 true) new
+IsGivenUp old (round.Over end.WriteFault) new = GivesFront old (fixed_text 27 true) new
+IsGivenUp old (round.Over end.Ended) new = ⊥
+IsGivenUp old (round.Over end.Closed) new = ⊥
+IsGivenUp old (round.Over end.Unframed) new = ⊥
+IsGivenUp old (round.Over end.Cut) new = ⊥
+IsGivenUp old (round.Over end.ReadFault) new = ⊥
+IsGivenUp old round.On new = ⊥

@@ -46,14 +46,24 @@ pub data Reaches (p : Point) : Point → Type 0 where
   here : Reaches p p
   on : (q r : Point) (a : Answer) → Reaches p q → IsAnswered q a r → a.ends ≡ None → Reaches p r
 
--- what a session left behind: how it ended, what was given, and the service
+-- what a session left behind: how it ended, what was given, the service, and what is left of the input, where the end says
+-- that
 pub record Final : Type 0 where
   pub end : SessionEnd
   pub given : List ℕ
   pub served : Served
+  pub leaves : Option (List ℕ)
 
 abbrev pub final : SessionEnd → Point → List ℕ → Final
-final e p text = record { end = e; given = p.given ++ text; served = p.served }
+final e p text = record { end = e; given = p.given ++ text; served = p.served; leaves = None }
+
+-- the same, where some bytes were taken behind the point, and these are left
+abbrev pub final_at : SessionEnd → Point → List ℕ → List ℕ → Final
+final_at e p text rest = record { end = e; given = p.given ++ text; served = p.served; leaves = Some rest }
+
+abbrev pub IsLeft : Option (List ℕ) → Option (List ℕ) → Type 0
+IsLeft None left = ⊤
+IsLeft (Some rest) left = left ≡ Some rest
 
 -- the row by which an ending is refused, where it is no end of the input
 abbrev pub row_of : Ending → Option ℕ
@@ -70,19 +80,20 @@ pub record Begins (bytes taken : List ℕ) : Type 0 where
   pub parts : bytes ≡ taken ++ rest
 
 -- How a session ends at a point. The input ends, between two messages or within one; or it goes on in a way that is refused; or
--- an answer ends the session. Or the input fails: what was taken of it holds no whole message. Or the output fails, within the
--- line that asks for a body, within an answer, which stays carried out, or within a refusal. Or memory runs out while a message
--- is read, which is refused, as far as the output takes that.
+-- an answer ends the session. Or the input fails: what was taken of it behind the point holds no whole message, and the rest is
+-- left. Or the output fails, within the line that asks for a body, within an answer, which stays carried out, or within a refusal.
+-- Or memory runs out while a message is read, which is refused.
 pub data Finishes (p : Point) : Final → Type 0 where
   input_ended : (due : Bool) → IsNext p.bytes (ended ending.End due) → Finishes p (final end.Ended p (interim due))
   input_cut : (due : Bool) → IsNext p.bytes (ended ending.Cut due) → Finishes p (final end.Cut p (interim due))
   refused : (e : Ending) (due : Bool) (row : ℕ) → IsNext p.bytes (ended e due) → row_of e ≡ Some row → Finishes p (final end.Unframed p (interim due ++ fixed_text row true))
-  answered : (a : Answer) (q : Point) (e : SessionEnd) → IsAnswered p a q → a.ends ≡ Some e → Finishes p (record { end = e; given = q.given; served = q.served })
-  read_failed : (taken : List ℕ) (due : Bool) → Begins p.bytes taken → Awaits taken due → Finishes p (final end.ReadFault p (interim due))
-  line_failed : (taken front : List ℕ) → Begins p.bytes taken → HasPlan taken true → Begins continue_line front → Finishes p (final end.WriteFault p front)
-  answer_failed : (a : Answer) (q : Point) (front : List ℕ) → IsAnswered p a q → Begins q.given (p.given ++ front) → Finishes p (record { end = end.WriteFault; given = p.given ++ front; served = q.served })
+  answered : (a : Answer) (q : Point) (e : SessionEnd) → IsAnswered p a q → a.ends ≡ Some e → Finishes p (record { end = e; given = q.given; served = q.served; leaves = None })
+  read_failed : (taken rest : List ℕ) (due : Bool) → p.bytes ≡ taken ++ rest → Awaits taken due → Finishes p (final_at end.ReadFault p (interim due) rest)
+  line_failed : (taken rest front : List ℕ) → p.bytes ≡ taken ++ rest → HasPlan taken true → Begins continue_line front → Finishes p (final_at end.WriteFault p front rest)
+  answer_failed : (a : Answer) (q : Point) (front : List ℕ) → IsAnswered p a q → Begins q.given (p.given ++ front) → Finishes p (record { end = end.WriteFault; given = p.given ++ front; served = q.served; leaves = None })
   refusal_failed : (e : Ending) (due : Bool) (row : ℕ) (front : List ℕ) → IsNext p.bytes (ended e due) → row_of e ≡ Some row → Begins (fixed_text row true) front → Finishes p (final end.WriteFault p (interim due ++ front))
-  no_memory : (taken : List ℕ) (due : Bool) (front : List ℕ) → Begins p.bytes taken → (due ≡ true → HasPlan taken true) → Begins (fixed_text 27 true) front → Finishes p (final end.NoMemory p (interim due ++ front))
+  no_memory : (taken rest : List ℕ) (due : Bool) → p.bytes ≡ taken ++ rest → (due ≡ true → HasPlan taken true) → Finishes p (final_at end.NoMemory p (interim due ++ fixed_text 27 true) rest)
+  memory_failed : (taken rest : List ℕ) (due : Bool) (front : List ℕ) → p.bytes ≡ taken ++ rest → (due ≡ true → HasPlan taken true) → Begins (fixed_text 27 true) front → Finishes p (final_at end.WriteFault p (interim due ++ front) rest)
 
 -- ---- the ends
 
@@ -111,6 +122,7 @@ pub record IsHeld (input moments : List ℕ) (served : Served) (old : Shown) (e 
   pub end : final.end ≡ e
   pub given : new.given ≡ given_more old.given final.given
   pub serves : final.served ≡ served'
+  pub left : IsLeft final.leaves new.left
 
 -- where the input and the clock tell
 abbrev pub WhereTold : Option (List ℕ) → Shown → (List ℕ → List ℕ → Type 0) → Type 0
@@ -146,3 +158,4 @@ pub record IsOver (first : Option (List ℕ)) (p : Point) (e : SessionEnd) (show
   pub end : final.end ≡ e
   pub given : shown.given ≡ given_more first final.given
   pub serves : final.served ≡ served
+  pub left : IsLeft final.leaves shown.left

@@ -183,10 +183,12 @@ fn refuse<S: Sink>(row: u8, sink: &mut S, buffer: &mut Buffer) -> Round
     }
 }
 
-// Says that memory ran out while a message was read. A fault of the output changes nothing.
+// Says that memory ran out while a message was read.
 fn give_up<S: Sink>(sink: &mut S, buffer: &mut Buffer) -> Round
     ensures { IsGivenUp (S.sink sink.old) result (S.sink sink.new) }
 {
-    let _ = put_buffered(27, true, sink, buffer);
-    Round::Over(SessionEnd::NoMemory)
+    match put_buffered(27, true, sink, buffer) {
+        Ok(()) => Round::Over(SessionEnd::NoMemory),
+        Err(WriteFault) => Round::Over(SessionEnd::WriteFault),
+    }
 }
