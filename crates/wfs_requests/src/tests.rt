@@ -229,7 +229,7 @@ fn is_refused(read: Result<Request, AskFault>, row: u8, locator: &str) -> bool {
 }
 
 // Roots and actions, with the row and the locator.
-static OUTSIDE: [(&str, &str, u8, &str); 28] = [
+static OUTSIDE: [(&str, &str, u8, &str); 29] = [
     ("w/Foo", "", 9, "Foo"),
     ("m/Transaction?service=WFS", "", 9, "Transaction"),
     ("w/GetFeature?service=x", "", 99, "stage"),
