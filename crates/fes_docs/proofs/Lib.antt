@@ -1,5 +1,4 @@
 pub mod Edges
-pub mod Names
 pub mod Patterns
 pub mod Readings
 pub mod Steps

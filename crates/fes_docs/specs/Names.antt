@@ -4,14 +4,10 @@
 -- namespaces are not looked at, nor is text beside child elements.
 use Rattle.std.specs.Prelude.{ℕ, Bool, true, false, ◌&&◌, not, if◌then◌else◌, List, [], ◌∷◌, codes, Option, Some, None, Result, Ok, Err}
 use Rattle.std.specs.Str.{bytes_eq}
-use Rattle.std.specs.Ordering.{nat_cmp}
-use Rattle.std.specs.Cmp.Lexicographic.{slice_cmp}
-use Rattle.std.specs.declared.cmp.Ordering.{Ordering}
-use Rattle.std.specs.declared.cmp.Ordering.TheVariants.{Less}
 use Rattle.wfs_ends.specs.Read.{◌>>=◌}
-use Rattle.doc_tree.specs.declared.tree.Attribute.{Attribute}
 use Rattle.doc_tree.specs.declared.tree.Element.{Element, out-Element}
-use Rattle.gml_docs.specs.Elements.{is_name, is_among}
+use Rattle.doc_attributes.specs.Names.{is_name, value_at}
+use Rattle.doc_attributes.specs.Others.{first_other}
 use Rattle.gml_docs.specs.declared.fault.GmlFault.{GmlFault}
 use Rattle.gml_docs.specs.declared.fault.GmlFault.TheVariants.{Srs, OutOfMemory as NoMemory}
 use Rattle.fes_filter.specs.declared.fault.FilterFault.{FilterFault}
@@ -36,33 +32,8 @@ text_of e = (out-Element e).text
 -- ---- attributes
 
 -- the value of the first attribute of this name in no namespace
-abbrev pub value_in : List ℕ → List Attribute → Option (List ℕ)
-value_in local [] = None
-value_in local (a ∷ rest) = if is_name [] local a.name then Some a.value else value_in local rest
-
 unfoldable pub value_of : List ℕ → Element → Option (List ℕ)
-value_of local e = value_in local (out-Element e).attributes
-
--- an attribute in no namespace that is none of the listed ones
-unfoldable pub is_other : List (List ℕ) → Attribute → Bool
-is_other listed a = bytes_eq a.name.space [] && not (is_among listed a.name.local)
-
-abbrev pub is_less : Ordering → Bool
-is_less Less = true
-is_less other = false
-
--- the first by name of those so far and one more
-abbrev pub first_name : Option (List ℕ) → List ℕ → Option (List ℕ)
-first_name None name = Some name
-first_name (Some found) name = if is_less (slice_cmp nat_cmp name found) then Some name else Some found
-
-abbrev pub next_other : List (List ℕ) → Option (List ℕ) → Attribute → Option (List ℕ)
-next_other listed found a = if is_other listed a then first_name found a.name.local else found
-
--- the first by name of the attributes that are not listed, and of one that was found before
-abbrev pub first_other : List (List ℕ) → Option (List ℕ) → List Attribute → Option (List ℕ)
-first_other listed found [] = found
-first_other listed found (a ∷ rest) = first_other listed (next_other listed found a) rest
+value_of local e = value_at [] local (out-Element e).attributes
 
 abbrev pub refused : Option (List ℕ) → Result (Unit {0}) FilterDocFault
 refused None = Ok tt
@@ -70,7 +41,7 @@ refused (Some name) = Err (Operator name)
 
 -- an element has none but the listed attributes
 unfoldable pub no_others : List (List ℕ) → Element → Result (Unit {0}) FilterDocFault
-no_others listed e = refused (first_other listed None (out-Element e).attributes)
+no_others listed e = refused (first_other listed (out-Element e).attributes)
 
 -- ---- children
 

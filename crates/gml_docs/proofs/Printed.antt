@@ -1,5 +1,5 @@
 -- The canonical text of a geometry's element, by pieces.
-use Rattle.std.proofs.Common.{◌≡◌, ℕ, zero, suc, ◌+◌, ◌<◌, Bool, true, false, List, [], ◌∷◌, ◌++◌, length, map, refl, sym, ap, ◌∙◌, length-append, append_assoc, arith}
+use Rattle.std.proofs.Common.{◌≡◌, ℕ, zero, suc, ◌<◌, Bool, true, false, List, [], ◌∷◌, ◌++◌, length, map, refl, sym, ap, ◌∙◌, length-append, append_assoc, arith}
 use Rattle.std.specs.Prelude.{ℤ, pos, negsuc, codes, decimal, ◌==◌, ◌/◌, ◌%◌, ◌||◌, ◌&&◌, nat_le, if◌then◌else◌}
 use Rattle.std.specs.List.{flat_map}
 use Rattle.std.specs.Fmt.{digit_glyph, digits, digits_onto, signed_decimal}

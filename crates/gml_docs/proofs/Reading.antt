@@ -1,25 +1,22 @@
 -- The element of a geometry reads back as that geometry.
-use Rattle.std.proofs.Common.{◌≡◌, ℕ, ◌<◌, ◌≤◌, Bool, true, false, ◌&&◌, List, [], ◌∷◌, ◌++◌, length, map, Result, Ok, Err, refl, sym, ap, ◌∙◌, append_assoc, arith}
-use Rattle.std.specs.Prelude.{codes, All, nat_lt, ◌+◌, sum_by, if◌then◌else◌, IsTrue}
+use Rattle.std.proofs.Common.{◌≡◌, ℕ, true, false, List, [], ◌∷◌, ◌++◌, length, map, Ok, refl, sym, ap, ◌∙◌, append_assoc, arith}
+use Rattle.std.specs.Prelude.{codes, All, nat_lt, ◌+◌, sum_by}
 use Rattle.std.specs.List.{list_all}
 use Rattle.std.specs.Str.{bytes_eq}
 use Rattle.std.proofs.lemmas.List.{append-nil}
 use Rattle.std.proofs.lemmas.List.Elements.{All-head, All-tail}
-use Rattle.wfs_ends.specs.Read.{◌>>=◌, each}
+use Rattle.wfs_ends.specs.Read.{each}
 use Rattle.doc_tree.specs.declared.tree.Attribute.{Attribute}
 use Rattle.doc_tree.specs.declared.tree.Element.{Element, out-Element}
 use Rattle.doc_tree.specs.declared.tree.Element.TheOpen.{Element-F}
 use Rattle.doc_tree.specs.declared.tree.Element.TheViews.{out-roll-Element}
 use Rattle.geom_core.specs.Plane.{Point, IsPosition, Area}
 use Rattle.geom_core.specs.Shapes.{IsLine, IsRing, IsPolygon, is_closed, are_holes_within, line_of, ring_of, polygon_of}
-use Rattle.geom_core.specs.declared.geometry.Geometry.{Geometry}
 use Rattle.geom_core.specs.declared.geometry.Geometry.TheVariants.{At, Along, Over}
-use Rattle.gml_docs.specs.declared.fault.GmlFault.{GmlFault}
-use Rattle.gml_docs.specs.declared.fault.GmlFault.TheVariants.{Kind, Srs}
-use Rattle.gml_docs.specs.Numbers.{shaped, positions_of, position_in}
-use Rattle.gml_docs.specs.Elements.{gml_space, is_name, is_gml, is_among, is_fitting, fitted, entered, no_more, position_at, list_at, path_of, only_position, point_at, line_at, ring_at, only_ring, side_at, next_hole, area_of, polygon_at, geometry_of}
+use Rattle.doc_attributes.specs.Names.{is_name, is_among}
+use Rattle.gml_docs.specs.Elements.{gml_space, is_gml, is_fitting, fitted, entered, no_more, position_at, list_at, path_of, point_at, line_at, ring_at, only_ring, side_at, next_hole, area_of, polygon_at, geometry_of}
 use Rattle.gml_docs.specs.Written.{position_text, positions_text, gml_name, plain_name, element, leaf, parent, attributes_of, list_tree, side_tree, hole_tree, area_trees, tree_of}
-use Rattle.gml_docs.specs.RoundTrip.{IsRingOf, IsAreaOf, IsGeometry, ReadsBack}
+use Rattle.gml_docs.specs.RoundTrip.{IsRingOf, IsAreaOf, ReadsBack}
 use Rattle.gml_docs.proofs.Texts.{position_again, positions_again}
 
 -- ---- what an element says

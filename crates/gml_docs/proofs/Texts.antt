@@ -1,7 +1,7 @@
 -- The text of positions reads back as these positions.
-use Rattle.std.proofs.Common.{◌≡◌, ℕ, ◌+◌, ◌<◌, ◌^◌, Bool, true, false, ◌&&◌, List, [], ◌∷◌, ◌++◌, length, Some, Result, Ok, Err, refl, sym, ap, ◌∙◌, append_assoc, arith}
-use Rattle.std.specs.Prelude.{ℤ, pos, negsuc, nat_lt, All, codes, if◌then◌else◌}
-use Rattle.std.specs.List.{filter, flat_map, slice_split}
+use Rattle.std.proofs.Common.{◌≡◌, ℕ, ◌<◌, ◌^◌, Bool, true, List, [], ◌∷◌, ◌++◌, length, Ok, refl, sym, ap, ◌∙◌, append_assoc, arith}
+use Rattle.std.specs.Prelude.{ℤ, pos, negsuc, nat_lt, All}
+use Rattle.std.specs.List.{filter, flat_map}
 use Rattle.std.specs.Fmt.{signed_decimal}
 use Rattle.std.specs.Int.Signed.{mag}
 use Rattle.std.proofs.lemmas.Int.{ints}
@@ -10,10 +10,10 @@ use Rattle.std.proofs.lemmas.List.Concat.{flat_map-cons}
 use Rattle.std.proofs.lemmas.List.Elements.{All-head, All-tail}
 use Rattle.std.proofs.lemmas.List.Splits.{slice_split_at, slice_split_none}
 use Rattle.wfs_ends.specs.Ends.{joined}
-use Rattle.wfs_ends.specs.Read.{◌>>=◌, each}
+use Rattle.wfs_ends.specs.Read.{each}
 use Rattle.geom_core.specs.Plane.{Point, IsCoordinate, IsPosition}
 use Rattle.geom_core.specs.Shapes.{is_coordinate, position_of}
-use Rattle.gml_docs.specs.Numbers.{is_space, words, coordinate_of, or_number, point_of, points_of, located, only_located, shaped, placed, positions_of, position_in}
+use Rattle.gml_docs.specs.Numbers.{is_space, words, point_of, points_of, located, placed, positions_of, position_in}
 use Rattle.gml_docs.specs.Written.{position_text, next_text, positions_text}
 use Rattle.gml_docs.proofs.Cuts.{space_first, no_words}
 use Rattle.gml_docs.proofs.Decimals.{IsWord, read_again, number_word}

@@ -3,13 +3,13 @@
 -- Each element is judged in this order: its name; the reference system and the dimension, where they are given; its
 -- children in document order, and then those that are missing; the numbers of its text; and the shape that it makes.
 -- Elements that hold others hold no text of their own, so text beside children says nothing.
-use Rattle.std.specs.Prelude.{ℕ, Bool, true, ◌&&◌, if◌then◌else◌, nat_lt, List, [], ◌∷◌, ◌++◌, length, codes, Result, Ok, Err}
-use Rattle.std.specs.List.{list_all, list_any}
+use Rattle.std.specs.Prelude.{ℕ, Bool, true, if◌then◌else◌, nat_lt, List, [], ◌∷◌, ◌++◌, length, codes, Result, Ok, Err}
+use Rattle.std.specs.List.{list_all}
 use Rattle.std.specs.Str.{bytes_eq}
 use Rattle.wfs_ends.specs.Read.{◌>>=◌, each}
-use Rattle.doc_tree.specs.declared.tree.QName.{QName}
 use Rattle.doc_tree.specs.declared.tree.Attribute.{Attribute}
 use Rattle.doc_tree.specs.declared.tree.Element.{Element, out-Element}
+use Rattle.doc_attributes.specs.Names.{is_name, is_among}
 use Rattle.geom_core.specs.Plane.{Point, Bounds, Area}
 use Rattle.geom_core.specs.Shapes.{line_of, ring_of, polygon_of, box_of}
 use Rattle.geom_core.specs.declared.geometry.Geometry.{Geometry}
@@ -22,17 +22,11 @@ use Rattle.gml_docs.specs.declared.fault.GmlFault.TheVariants.{Kind, Srs}
 abbrev pub gml_space : List ℕ
 gml_space = codes "http://www.opengis.net/gml/3.2"
 
-abbrev pub is_name : List ℕ → List ℕ → QName → Bool
-is_name space local name = bytes_eq name.space space && bytes_eq name.local local
-
 -- an element of GML with this local name
 unfoldable pub is_gml : List ℕ → Element → Bool
 is_gml local e = is_name gml_space local (out-Element e).name
 
--- ---- names and attributes
-
-abbrev pub is_among : List (List ℕ) → List ℕ → Bool
-is_among names name = list_any (λ n. bytes_eq n name) names
+-- ---- attributes
 
 -- The reference system is one of these, and positions have two coordinates. Other attributes are not looked at.
 unfoldable pub is_fitting : List (List ℕ) → Attribute → Bool

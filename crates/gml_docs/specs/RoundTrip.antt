@@ -4,7 +4,8 @@ use Rattle.geom_core.specs.Plane.{Point, IsPosition, Area}
 use Rattle.geom_core.specs.Shapes.{IsLine, IsRing, IsPolygon}
 use Rattle.geom_core.specs.declared.geometry.Geometry.{Geometry}
 use Rattle.geom_core.specs.declared.geometry.Geometry.TheVariants.{At, Along, Over}
-use Rattle.gml_docs.specs.Elements.{is_among, geometry_of}
+use Rattle.doc_attributes.specs.Names.{is_among}
+use Rattle.gml_docs.specs.Elements.{geometry_of}
 use Rattle.gml_docs.specs.Written.{tree_of}
 
 -- a ring of positions

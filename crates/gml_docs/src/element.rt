@@ -1,20 +1,16 @@
 ghost use Rattle.std.specs.Prelude.{◌≡◌};
 ghost use Rattle.std.specs.List.{list_all};
-ghost use Rattle.gml_docs.specs.Elements.{is_name, is_gml, is_among, is_fitting, fitted, entered, no_more};
+ghost use Rattle.doc_attributes.specs.Names.{is_among};
+ghost use Rattle.gml_docs.specs.Elements.{is_gml, is_fitting, fitted, entered, no_more};
 ghost use Rattle.doc_tree.specs.declared.tree.Element.{out-Element};
 
 use crate::fault::GmlFault;
-use doc_tree::{Attribute, Element, QName};
+use doc_attributes::is_name;
+use doc_tree::{Attribute, Element};
 use wfs_ends::{List, Text};
 
 // The namespace of GML 3.2.
 pub(crate) const GML: &str = "http://www.opengis.net/gml/3.2";
-
-fn is_name(name: &QName, space: &str, local: &str) -> bool
-    ensures { result ≡ is_name space.now local.now name.now }
-{
-    name.space.as_str() == space && name.local.as_str() == local
-}
 
 // Whether an element is GML's of this local name.
 #[tactic(auto, unfolding(crate::specs::Elements::is_gml))]

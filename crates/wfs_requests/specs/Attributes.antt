@@ -4,13 +4,10 @@
 -- Attributes of namespaces are not looked at, nor is text beside child elements.
 use Rattle.std.specs.Prelude.{◌||◌, ℕ, Bool, true, false, ◌&&◌, not, if◌then◌else◌, List, [], ◌∷◌, codes, Option, Some, None, Result, Ok, Err}
 use Rattle.std.specs.Str.{bytes_eq}
-use Rattle.std.specs.Ordering.{nat_cmp}
-use Rattle.std.specs.Cmp.Lexicographic.{slice_cmp}
-use Rattle.std.specs.declared.cmp.Ordering.{Ordering}
-use Rattle.std.specs.declared.cmp.Ordering.TheVariants.{Less}
 use Rattle.doc_tree.specs.declared.tree.Attribute.{Attribute}
 use Rattle.doc_tree.specs.declared.tree.Element.{Element, out-Element}
-use Rattle.gml_docs.specs.Elements.{is_name, is_among}
+use Rattle.doc_attributes.specs.Names.{value_at}
+use Rattle.doc_attributes.specs.Others.{first_other}
 use Rattle.wfs_machine.specs.declared.fault.AskFault.{AskFault}
 use Rattle.wfs_machine.specs.Terms.{refused, is_version, is_format, is_listed}
 
@@ -23,11 +20,6 @@ local_of e = (out-Element e).name.local
 
 abbrev pub attributes_of : Element → List Attribute
 attributes_of e = (out-Element e).attributes
-
--- the value of the first attribute of this name
-abbrev pub value_at : List ℕ → List ℕ → List Attribute → Option (List ℕ)
-value_at space local [] = None
-value_at space local (a ∷ rest) = if is_name space local a.name then Some a.value else value_at space local rest
 
 -- the value of the first attribute of this name in no namespace
 abbrev pub value_in : List ℕ → List Attribute → Option (List ℕ)
@@ -82,31 +74,10 @@ unbuilt_at local attributes = unbuilt (value_in local attributes)
 
 -- ---- other attributes
 
--- an attribute in no namespace that is none of the listed ones
-unfoldable pub is_other : List (List ℕ) → Attribute → Bool
-is_other listed a = bytes_eq a.name.space [] && not (is_among listed a.name.local)
-
-abbrev pub is_less : Ordering → Bool
-is_less Less = true
-is_less other = false
-
--- the first by name of those so far and one more
-abbrev pub first_name : Option (List ℕ) → List ℕ → Option (List ℕ)
-first_name None name = Some name
-first_name (Some found) name = if is_less (slice_cmp nat_cmp name found) then Some name else Some found
-
-abbrev pub next_other : List (List ℕ) → Option (List ℕ) → Attribute → Option (List ℕ)
-next_other listed found a = if is_other listed a then first_name found a.name.local else found
-
--- the first by name of the attributes that are not listed, and of one that was found before
-abbrev pub first_other : List (List ℕ) → Option (List ℕ) → List Attribute → Option (List ℕ)
-first_other listed found [] = found
-first_other listed found (a ∷ rest) = first_other listed (next_other listed found a) rest
-
 abbrev pub refused_other : Option (List ℕ) → Ask (Unit {0})
 refused_other None = Ok tt
 refused_other (Some name) = Err (refused 12 name)
 
 -- an element has none but the listed attributes
 unfoldable pub no_others : List (List ℕ) → List Attribute → Ask (Unit {0})
-no_others listed attributes = refused_other (first_other listed None attributes)
+no_others listed attributes = refused_other (first_other listed attributes)

@@ -5,6 +5,7 @@ use Rattle.std.specs.Str.{bytes_eq}
 use Rattle.wfs_ends.specs.Read.{◌>>=◌, each}
 use Rattle.doc_tree.specs.declared.tree.Attribute.{Attribute}
 use Rattle.doc_tree.specs.declared.tree.Element.{Element, out-Element}
+use Rattle.doc_attributes.specs.Names.{value_at}
 use Rattle.gml_docs.specs.Elements.{is_gml, geometry_of}
 use Rattle.feature_values.specs.declared.schema.Schema.{Schema}
 use Rattle.feature_values.specs.declared.schema.FeatureType.{FeatureType}
@@ -20,7 +21,7 @@ use Rattle.feature_values.specs.Ids.{type_named, property_named}
 use Rattle.feature_values.specs.Reads.{reads}
 use Rattle.wfs_machine.specs.declared.fault.AskFault.{AskFault}
 use Rattle.wfs_machine.specs.Terms.{refused}
-use Rattle.wfs_requests.specs.Attributes.{Ask, local_of, attributes_of, value_at, no_others}
+use Rattle.wfs_requests.specs.Attributes.{Ask, local_of, attributes_of, no_others}
 
 -- ---- one value
 

@@ -5,7 +5,7 @@ use Rattle.std.specs.Str.{bytes_eq}
 use Rattle.wfs_ends.specs.Read.{◌>>=◌, each, unless}
 use Rattle.doc_tree.specs.declared.tree.Attribute.{Attribute}
 use Rattle.doc_tree.specs.declared.tree.Element.{Element, out-Element}
-use Rattle.gml_docs.specs.Elements.{is_name, is_among}
+use Rattle.doc_attributes.specs.Names.{is_name, is_among}
 use Rattle.feature_values.specs.declared.schema.Schema.{Schema}
 use Rattle.feature_values.specs.declared.feature.Feature.{Feature}
 use Rattle.wfs_machine.specs.declared.request.Action.{Action}

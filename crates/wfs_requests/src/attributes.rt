@@ -1,54 +1,15 @@
-ghost use Rattle.std.specs.Prelude.{◌≡◌, IfOk, map, None};
+ghost use Rattle.std.specs.Prelude.{◌≡◌, IfOk, map};
 ghost use Rattle.std.specs.Option.{option_copied};
-ghost use Rattle.std.specs.List.{list_any};
-ghost use Rattle.std.specs.Str.{bytes_eq};
 ghost use Rattle.wfs_ends.specs.Read.{GivesBut};
-ghost use Rattle.gml_docs.specs.Elements.{is_name, is_among};
-ghost use Rattle.wfs_requests.specs.Attributes.{value_at, value_in, service_at, version_at, release_at, format_at, srs_at, not_built, unbuilt_at, is_other, first_name, next_other, first_other, no_others};
+ghost use Rattle.wfs_requests.specs.Attributes.{value_in, service_at, version_at, release_at, format_at, srs_at, not_built, unbuilt_at, no_others};
 
-use doc_tree::{Attribute, QName};
+use doc_attributes::{first_other, value_at};
+use doc_tree::Attribute;
 use std::alloc::Global;
-use std::cmp::Ordering;
 use wfs_ends::{Mem, Text};
 use wfs_machine::{AskFault, is_format, is_listed, is_version, refused};
 
-// ---- names
-
-pub(crate) fn is_name(name: &QName, space: &str, local: &str) -> bool
-    ensures { result ≡ is_name space.now local.now name.now }
-{
-    name.space.as_str() == space && name.local.as_str() == local
-}
-
-fn any_is(names: &[&str], name: &str) -> bool
-    ensures { result ≡ list_any (λ n. bytes_eq n.now name.now) names.now }
-{
-    names.iter().any(|n| *n == name)
-}
-
-pub(crate) fn is_among(names: &[&str], name: &str) -> bool
-    ensures { result ≡ is_among (map (λ n. n.now) names.now) name.now }
-{
-    any_is(names, name)
-}
-
 // ---- listed attributes
-
-// The value of the first attribute of this name.
-pub(crate) fn value_at<'a>(
-    attributes: &'a [Attribute],
-    space: &str,
-    local: &str,
-) -> Option<&'a Text>
-    ensures { option_copied result ≡ value_at space.now local.now attributes.now }
-{
-    for attribute in attributes {
-        if is_name(&attribute.name, space, local) {
-            return Some(&attribute.value);
-        }
-    }
-    None
-}
 
 // The value of the first attribute of this name in no namespace.
 fn value_in<'a>(attributes: &'a [Attribute], local: &str) -> Option<&'a Text>
@@ -164,50 +125,6 @@ pub(crate) fn unbuilt_at(
 }
 
 // ---- other attributes
-
-#[tactic(auto, unfolding(crate::specs::Attributes::is_other))]
-fn is_other(listed: &[&str], attribute: &Attribute) -> bool
-    ensures { result ≡ is_other (map (λ n. n.now) listed.now) attribute.now }
-{
-    attribute.name.space.as_str() == "" && !is_among(listed, attribute.name.local.as_str())
-}
-
-// The first by name of the one so far and one more.
-fn first_name<'a>(found: Option<&'a Text>, name: &'a Text) -> Option<&'a Text>
-    ensures { option_copied result ≡ first_name (option_copied found.entry) name.now }
-{
-    match found {
-        None => Some(name),
-        Some(found) => match name.as_str().cmp(found.as_str()) {
-            Ordering::Less => Some(name),
-            _ => Some(found),
-        },
-    }
-}
-
-fn next_other<'a>(
-    listed: &[&str],
-    found: Option<&'a Text>,
-    attribute: &'a Attribute,
-) -> Option<&'a Text>
-    ensures { option_copied result ≡ next_other (map (λ n. n.now) listed.now) (option_copied found.entry) attribute.now }
-{
-    if is_other(listed, attribute) {
-        return first_name(found, &attribute.name.local);
-    }
-    found
-}
-
-// The first by name of the attributes that are not listed.
-fn first_other<'a>(listed: &[&str], attributes: &'a [Attribute]) -> Option<&'a Text>
-    ensures { option_copied result ≡ first_other (map (λ n. n.now) listed.now) None attributes.now }
-{
-    let mut found = None;
-    for attribute in attributes {
-        found = next_other(listed, found, attribute);
-    }
-    found
-}
 
 // Refuses attributes in no namespace other than those listed.
 #[tactic(auto, unfolding(crate::specs::Attributes::no_others))]

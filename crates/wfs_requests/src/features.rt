@@ -4,8 +4,9 @@ ghost use Rattle.gml_docs.specs.Elements.{is_gml};
 ghost use Rattle.feature_values.specs.declared.value.Value.TheVariants.{Null as NullValue};
 ghost use Rattle.wfs_requests.specs.Features.{so_far, place_of, misplaced, with_value, next_value, one_met, all_met, values_of, kind_of, feature_of};
 
-use crate::attributes::{is_name, no_others};
+use crate::attributes::no_others;
 use crate::values::{unfit, value_of};
+use doc_attributes::is_name;
 use doc_tree::Element;
 use feature_values::{Feature, FeatureType, Property, Rid, Schema, Value};
 use std::alloc::Global;

@@ -4,10 +4,11 @@ ghost use Rattle.wfs_machine.specs.Step.{IsOfTypes, IsActionOfTypes};
 ghost use Rattle.wfs_requests.specs.Transactions.{is_wfs, is_wfs_among, next_feature, insert_others, insert_of, is_later_action, action_of, next_action, transaction_others, transaction_of, is_later_operation, request_of};
 
 use crate::attributes::{
-    format_at, is_among, is_name, no_others, not_built, release_at, service_at, srs_at, text_at,
-    unbuilt_at, version_at,
+    format_at, no_others, not_built, release_at, service_at, srs_at, text_at, unbuilt_at,
+    version_at,
 };
 use crate::features::feature_of;
+use doc_attributes::{is_among, is_name};
 use doc_tree::{Attribute, Element};
 use feature_values::{Feature, Schema};
 use std::alloc::Global;

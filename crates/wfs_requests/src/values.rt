@@ -3,7 +3,8 @@ ghost use Rattle.std.specs.Option.{option_copied};
 ghost use Rattle.wfs_ends.specs.Read.{GivesBut};
 ghost use Rattle.wfs_requests.specs.Features.{is_geometry, unfit, shape_of, only_shape, word_of, content_of, is_true, is_nil, null_of, value_of};
 
-use crate::attributes::{no_others, value_at};
+use crate::attributes::no_others;
+use doc_attributes::value_at;
 use doc_tree::Element;
 use feature_values::{Property, Value, ValueFault, ValueKind, is_of_kind, read_value};
 use gml_docs::{GmlFault, read_geometry};
