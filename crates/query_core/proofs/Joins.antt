@@ -22,7 +22,7 @@ then_same Less p = refl
 then_same Equal p = refl
 then_same Greater p = refl
 
-same_is : (id other : Rid) → is_same id other ≡ is_eq (rid_order other id)
+pub same_is : (id other : Rid) → is_same id other ≡ is_eq (rid_order other id)
 unfolding rid_order
 same_is id other =
     rw (nat_same id.kind other.kind, nat_same id.number other.number) (sym (then_same (nat_cmp other.kind id.kind) (nat_cmp other.number id.number)))

@@ -1,6 +1,10 @@
+pub mod Asks
+pub mod Begins
+pub mod Found
 pub mod Held
 pub mod Joins
 pub mod Keys
+pub mod Once
 pub mod Orders
 pub mod Selects
 pub mod Sorts

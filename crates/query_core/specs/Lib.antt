@@ -1,3 +1,4 @@
+pub mod Finding
 pub mod Paging
 pub mod Selecting
 pub mod Sorting

@@ -4,7 +4,9 @@
 //! together, and `page` cuts one page out.
 #![tactic(auto)]
 
+mod asking;
 mod joining;
+mod looking;
 mod ordering;
 mod paging;
 mod selecting;

@@ -31,7 +31,11 @@ pub(crate) fn ids_of(alloc: Global, features: &[&Feature]) -> Mem<List<Rid>>
 }
 
 /// The features that a view has of these identifiers, in their order.
-fn held<'a, V: FeatureView>(alloc: Global, view: &'a V, ids: &[Rid]) -> Mem<Vec<&'a Feature>>
+pub(crate) fn held<'a, V: FeatureView>(
+    alloc: Global,
+    view: &'a V,
+    ids: &[Rid],
+) -> Mem<Vec<&'a Feature>>
     ensures { IfOk result (λ fs. map (λ f. f.now) fs.items ≡ held (V.features view.now) ids.now) }
 {
     let mut features = Vec::with_capacity(alloc, ids.len())?;

@@ -1,7 +1,8 @@
-//! The plain way to select: all features, one after the other.
+//! The plain way to select: all features of a type, one after the other.
 
 ghost use Rattle.std.specs.Prelude.{◌≡◌, IfOk, OnOk, Some, map, filter};
 ghost use Rattle.fes_filter.specs.View.{IsInOrder};
+ghost use Rattle.query_core.specs.Finding.{start_of, is_past};
 ghost use Rattle.query_core.specs.Selecting.{is_selected};
 
 use feature_values::{Feature, Rid};
@@ -31,6 +32,29 @@ pub(crate) fn is_selected<L: Ledger>(
     }
 }
 
+/// A place behind which all features of a type stand; for all types the beginning.
+fn start_of(kind: Option<u32>) -> Option<Rid>
+    ensures { result ≡ start_of kind }
+{
+    match kind {
+        None | Some(0) => None,
+        Some(kind) => Some(Rid {
+            kind: kind - 1,
+            number: u64::MAX,
+        }),
+    }
+}
+
+/// Whether a place is behind all features of a type.
+fn is_past(kind: Option<u32>, id: Rid) -> bool
+    ensures { result ≡ is_past kind id }
+{
+    match kind {
+        None => false,
+        Some(kind) => kind < id.kind,
+    }
+}
+
 /// The place right behind a feature.
 fn place_behind(feature: &Feature) -> Option<Rid>
     ensures { result ≡ Some feature.now.id }
@@ -38,7 +62,8 @@ fn place_behind(feature: &Feature) -> Option<Rid>
     Some(feature.id)
 }
 
-/// The features that a query selects, in default order.
+/// The features that a query selects, in default order. It begins at the first feature of the query's type and ends at the first
+/// of a later one.
 pub(crate) fn walk<'a, V: FeatureView, L: Ledger>(
     alloc: Global,
     view: &'a V,
@@ -49,8 +74,11 @@ pub(crate) fn walk<'a, V: FeatureView, L: Ledger>(
     ensures order { OnOk result (IsInOrder (V.features view.now)) }
 {
     let mut found = Vec::new(alloc);
-    let mut after = None;
+    let mut after = start_of(query.kind);
     while let Some(feature) = view.next(after) {
+        if is_past(query.kind, feature.id) {
+            return Ok(found);
+        }
         after = place_behind(feature);
         if !is_selected(alloc, query, feature, steps)? {
             continue;
