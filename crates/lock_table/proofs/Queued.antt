@@ -25,6 +25,10 @@ pub due_behind : (moment : ℕ) (top : Due) (queue : List Due) → moment < top.
 due_behind moment top queue lt all =
     all_weaker (λ y. is_lt (due_cmp top y) ≡ false) (λ e. moment < e.0.0) queue (λ y h. let le : top.0.0 ≤ y.0.0 = not_sooner_at y.0.0 top.0.0 (nat_cmp y.0.0 top.0.0) (nat_cmp y.0.1 top.0.1) refl h in omega (arith, lt, le)) all
 
+pub soonest : (top : Due) (queue : List Due) → AllByRecursion (λ y. is_lt (due_cmp top y) ≡ false) queue → AllByRecursion (λ e. top.0.0 ≤ e.0.0) queue
+soonest top queue all =
+    all_weaker (λ y. is_lt (due_cmp top y) ≡ false) (λ e. top.0.0 ≤ e.0.0) queue (λ y h. not_sooner_at y.0.0 top.0.0 (nat_cmp y.0.0 top.0.0) (nat_cmp y.0.1 top.0.1) refl h) all
+
 -- where no entry is due, each lock that has not been ended is live
 
 entry_live : (moment : ℕ) (e : Due) (l : Lock) → moment < e.0.0 → is_entry_of l e ≡ true → is_live moment l ≡ true

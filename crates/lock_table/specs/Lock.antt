@@ -23,3 +23,5 @@ pub record Locks : Type 0 where
   pub last : ℕ
   -- how many features the next lock may have, for which memory is at hand
   pub spare : ℕ
+  -- how many locks have a place in memory, with those that have ended
+  pub kept : ℕ

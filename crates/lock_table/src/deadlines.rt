@@ -73,8 +73,9 @@ impl Deadlines {
 
     // Takes the soonest entry, and tells its number.
     pub fn pop(&mut self) -> Option<u64>
-        ensures entry { IfSome result (λ n. (d : _) × ((p : Due → Bool) → list_any p (heap_items self.old.queue) ≡ (p (due_at d n) || list_any p (heap_items self.new.queue)))) }
-        ensures none { IfNone result (heap_items self.new.queue ≡ heap_items self.old.queue) }
+        ensures entry { IfSome result (λ n. (d : _) × ((p : Due → Bool) → list_any p (heap_items self.old.queue) ≡ (p (due_at d n) || list_any p (heap_items self.new.queue))) × AllByRecursion (λ e. d ≤ e.0.0) (heap_items self.new.queue)) }
+        ensures none { IfNone result (heap_len self.old.queue ≡ 0) }
+        ensures same { IfNone result (heap_items self.new.queue ≡ heap_items self.old.queue) }
         ensures len { heap_len self.new.queue ≤ heap_len self.old.queue }
         ensures capacity { heap_capacity self.new.queue ≡ heap_capacity self.old.queue }
     {

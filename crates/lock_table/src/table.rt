@@ -1,4 +1,4 @@
-ghost use Rattle.std.specs.Prelude.{◌≡◌, ◌+◌, ◌<◌, ◌≤◌, [], IsTrue, IfErr, OnOk, All, None, Err, length};
+ghost use Rattle.std.specs.Prelude.{◌≡◌, ◌+◌, ◌*◌, ◌<◌, ◌≤◌, [], nat_le, IsTrue, IfErr, OnOk, All, None, Err, length};
 ghost use Rattle.std.specs.HashMap.{spare};
 ghost use Rattle.lock_table.specs.declared.words.LockFault.TheVariants.{Full, OutOfMemory};
 ghost use Rattle.lock_table.specs.declared.words.Release.TheVariants.{Whole, Touched};
@@ -19,8 +19,9 @@ use wfs_ends::List;
 
 /// Who holds what in one opening of the service (OGC 09-025r2, 12). A moment is in seconds since 1970. The last
 /// moment given is the greatest that `grant`, `renew` or `release` got, and no call may get a lesser one. Contracts
-/// see the locks that are live at this moment, the opening, how many locks were granted, and how many features the
-/// next lock may have, for which `reserve` has made room. No two live locks list one feature.
+/// see the locks that are live at this moment, the opening, how many locks were granted, how many features the next
+/// lock may have, for which `reserve` has made room, and how many locks have a place in memory, with those that have
+/// ended. No two live locks list one feature.
 #[derive(Drop)]
 pub struct LockTable {
     // by rising numbers; those that have ended stay until `reserve` takes them out
@@ -47,7 +48,7 @@ impl Model for LockTable {
 
     ghost Value = { Locks };
 
-    ghost view = { λ t. record { locks = live t.last t.locks.items; opening = t.opening; given = t.given; last = t.last; spare = t.spare } };
+    ghost view = { λ t. record { locks = live t.last t.locks.items; opening = t.opening; given = t.given; last = t.last; spare = t.spare; kept = vec_len t.locks } };
 
     ghost invariant = { λ t. AreKept t.last t.given (number_at t.holders.numbers) t.locks.items × HasRoom t.spare (room t.holders.numbers) (vec_len t.locks) (vec_capacity t.locks) (heap_capacity t.deadlines.queue) × AreQueued (heap_items t.deadlines.queue) t.locks.items × (t.standing ≡ length (live 0 t.locks.items)) };
 }
@@ -60,6 +61,7 @@ impl LockTable {
         ensures given { result.given ≡ 0 }
         ensures last { result.last ≡ 0 }
         ensures spare { result.spare ≡ 0 }
+        ensures kept { result.kept ≡ 0 }
     {
         LockTable {
             locks: Vec::new(alloc),
@@ -141,8 +143,8 @@ impl LockTable {
     }
 
     /// Makes room for a lock of so many features, where fewer than `limit` locks are live at the moment. No other call
-    /// takes memory. It ends no lock, and its moment does not count as given. It gives back the memory of what has ended,
-    /// where that is much.
+    /// takes memory. It ends no lock, and its moment does not count as given. It gives back the memory of what has ended:
+    /// whatever it answers, of the locks that it leaves a place at most half have ended.
     ///
     /// # Errors
     ///
@@ -152,12 +154,11 @@ impl LockTable {
         ensures full { limit ≤ length (live moment self.old.locks) → result ≡ Err (Full (length (live moment self.old.locks))) }
         ensures free { length (live moment self.old.locks) < limit → IfErr result (λ fault. fault ≡ OutOfMemory) }
         ensures room { OnOk result (features ≤ self.new.spare) }
-        ensures same { self.new ≡ record self.old { spare = self.new.spare } }
+        ensures same { self.new ≡ record self.old { spare = self.new.spare; kept = self.new.kept } }
         ensures kept { self.old.spare ≤ self.new.spare }
+        ensures few { self.new.kept ≤ 2 * length self.new.locks }
     {
-        if self.is_stale() {
-            self.sweep();
-        }
+        self.clear_out();
         if self.spare == 0 {
             self.shrink();
         }
@@ -169,8 +170,19 @@ impl LockTable {
         Ok(())
     }
 
+    // Takes out the locks that have ended, where they are many.
+    fn clear_out(&mut self)
+        ensures same { self.new ≡ record self.old { kept = self.new.kept } }
+        ensures few { self.new.kept ≤ 2 * length self.new.locks }
+    {
+        if self.is_stale() {
+            self.sweep();
+        }
+    }
+
+    // Takes out the locks that have ended.
     fn sweep(&mut self)
-        ensures { self.new ≡ self.old }
+        ensures { self.new ≡ record self.old { kept = length self.old.locks } }
     {
         swept::sweep(&mut self.holders, &mut self.locks, self.last);
         self.standing = self.locks.as_slice().len() as u64;
@@ -187,8 +199,16 @@ impl LockTable {
     }
 
     // Whether half of the locks that are kept have ended.
-    fn is_stale(&self) -> bool {
-        self.locks.len() as u64 / 2 >= self.standing
+    fn is_stale(&self) -> bool
+        ensures { result ≡ nat_le (2 * length self.now.locks) self.now.kept }
+    {
+        2 * u128::from(self.live_now()) <= self.locks.len() as u128
+    }
+
+    fn live_now(&self) -> u64
+        ensures { result ≡ length self.now.locks }
+    {
+        self.live_count(self.last)
     }
 
     fn live_count(&self, moment: u64) -> u64
@@ -230,6 +250,7 @@ impl LockTable {
         ensures given { self.new.given ≡ self.old.given + 1 }
         ensures last { self.new.last ≡ moment }
         ensures spare { self.new.spare ≡ 0 }
+        ensures kept { self.new.kept ≡ self.old.kept + 1 }
     {
         self.add_lock(features, moment, period);
         self.expire();
@@ -242,7 +263,7 @@ impl LockTable {
         requires free { All (λ feature. holder self.old.locks moment feature ≡ None) features }
         requires room { length features ≤ self.old.spare }
         requires numbers { self.old.given < 18_446_744_073_709_551_615 }
-        ensures { self.new ≡ record self.old { locks = granted moment self.old.given features period self.old.locks; given = self.old.given + 1; last = moment; spare = 0 } }
+        ensures { self.new ≡ record self.old { locks = granted moment self.old.given features period self.old.locks; given = self.old.given + 1; last = moment; spare = 0; kept = self.old.kept + 1 } }
     {
         let number = self.given + 1;
         self.holders.give(features.items(), number);
@@ -265,6 +286,7 @@ impl LockTable {
         ensures given { self.new.given ≡ self.old.given }
         ensures last { self.new.last ≡ moment }
         ensures spare { self.new.spare ≡ self.old.spare }
+        ensures kept { self.new.kept ≡ self.old.kept }
     {
         self.renew_lock(number, moment, period);
         self.expire();
@@ -291,6 +313,7 @@ impl LockTable {
         ensures given { self.new.given ≡ self.old.given }
         ensures last { self.new.last ≡ moment }
         ensures spare { self.new.spare ≡ self.old.spare }
+        ensures kept { self.new.kept ≡ self.old.kept }
     {
         match how {
             Release::Whole => self.release_whole(number, touched.items(), moment),

@@ -1,5 +1,6 @@
 use Rattle.std.proofs.Common.{◌≡◌, ℕ, ◌+◌, ◌≤◌, ◌∙◌, List, ap, sym, subst, true, false, arith, refl}
 use Rattle.std.specs.BinaryHeap.{heap_items}
+use Rattle.std.specs.Vec.{vec_len}
 use Rattle.lock_table.specs.Lock.{Lock}
 use Rattle.lock_table.specs.Held.{is_live_number, live}
 use Rattle.lock_table.specs.Kept.{number_at, AreKept, ended}
@@ -48,7 +49,8 @@ pub returns-then-is_live_number-2 : goal.returns-then-is_live_number-2
 returns-then-is_live_number-2 c =
     let t = c.self.inside in
     let dead : is_live_number t.locks.items t.last c.in-Some.number ≡ false = rw c.as_slice.ensures.value at (sym c.is_live_number.ensures ∙ c.if-is_live_number.false) in
-    ap (λ (ls : List Lock). record { locks = ls; opening = t.opening; given = t.given; last = t.last; spare = t.spare }) (ap (live t.last) c.end.ensures.items ∙ ended_dead t.last c.in-Some.number t.locks.items dead) ∙ c.self.view_is
+    ap (λ (n : ℕ). record { locks = live t.last c.end.new.locks.items; opening = t.opening; given = t.given; last = t.last; spare = t.spare; kept = n }) c.end.ensures.len
+    ∙ ap (λ (ls : List Lock). record { locks = ls; opening = t.opening; given = t.given; last = t.last; spare = t.spare; kept = vec_len t.locks }) (ap (live t.last) c.end.ensures.items ∙ ended_dead t.last c.in-Some.number t.locks.items dead) ∙ c.self.view_is
 
 -- it has been ended before
 pub invariant_of-self-else-is_live_number-2 : goal.invariant_of-self-else-is_live_number-2

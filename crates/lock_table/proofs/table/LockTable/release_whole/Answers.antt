@@ -1,5 +1,6 @@
 use Rattle.std.proofs.Common.{◌≡◌, ℕ, ◌+◌, ◌≤◌, ◌∙◌, List, ap, sym, subst, true, arith, refl}
 use Rattle.std.specs.BinaryHeap.{heap_items}
+use Rattle.std.specs.Vec.{vec_len}
 use Rattle.lock_table.specs.declared.words.Release.TheVariants.{Whole, Touched}
 use Rattle.lock_table.specs.Lock.{Lock, Locks}
 use Rattle.lock_table.specs.Held.{is_live_number, live}
@@ -43,7 +44,8 @@ returns c =
     let le = subst (λ (s : Locks). s.last ≤ c.args.moment) (sym c.self.view_is) c.requires.moment in
     let there = sym (number_seen t.last c.args.moment c.args.number t.locks.items le) ∙ subst (λ (s : Locks). is_live_number s.locks c.args.moment c.args.number ≡ true) (sym c.self.view_is) c.requires.live in
     let items = ap (live c.args.moment) c.end.ensures.items ∙ sym (whole_ended t.last c.args.moment t.given c.args.number c.args.touched.now (number_at c.self.inside.holders.numbers) t.locks.items le c.self.invariant.0 there) in
-    ap (λ (ls : List Lock). record { locks = ls; opening = t.opening; given = t.given; last = c.args.moment; spare = t.spare }) items
+    ap (λ (n : ℕ). record { locks = live c.args.moment c.end.new.locks.items; opening = t.opening; given = t.given; last = c.args.moment; spare = t.spare; kept = n }) c.end.ensures.len
+    ∙ ap (λ (ls : List Lock). record { locks = ls; opening = t.opening; given = t.given; last = c.args.moment; spare = t.spare; kept = vec_len t.locks }) items
     ∙ ap (λ (s : Locks). record s { locks = released c.args.moment c.args.number c.args.touched.now Whole s.locks; last = c.args.moment }) c.self.view_is
 
 pub features_of-features-requires : goal.features_of-features-requires

@@ -1,6 +1,6 @@
-use Rattle.std.proofs.Common.{◌≡◌, ◌∙◌, List, length, ap, sym, subst, arith, true}
+use Rattle.std.proofs.Common.{◌≡◌, ℕ, ◌∙◌, List, length, ap, sym, subst, arith, true}
 use Rattle.std.specs.BinaryHeap.{heap_items}
-use Rattle.lock_table.specs.Lock.{Lock}
+use Rattle.lock_table.specs.Lock.{Lock, Locks}
 use Rattle.lock_table.specs.Held.{is_live, live}
 use Rattle.lock_table.specs.Queue.{is_queued, AreQueued}
 use Rattle.lock_table.proofs.Counted.{kept_live}
@@ -22,4 +22,6 @@ invariant_of-self c =
 pub returns : goal.returns
 returns c =
     let t = c.self.inside in
-    ap (λ (ls : List Lock). record { locks = ls; opening = t.opening; given = t.given; last = t.last; spare = t.spare }) (ap (live t.last) c.sweep.ensures.locks ∙ live_seen t.last t.last t.locks.items (omega arith)) ∙ c.self.view_is
+    ap (λ (n : ℕ). record { locks = live t.last c.sweep.new.locks.items; opening = t.opening; given = t.given; last = t.last; spare = t.spare; kept = n }) (sym c.as_slice.ensures.len ∙ ap (λ (ls : List Lock). length ls) (c.as_slice.ensures.value ∙ c.sweep.ensures.locks))
+    ∙ ap (λ (ls : List Lock). record { locks = ls; opening = t.opening; given = t.given; last = t.last; spare = t.spare; kept = length (live t.last t.locks.items) }) (ap (live t.last) c.sweep.ensures.locks ∙ live_seen t.last t.last t.locks.items (omega arith))
+    ∙ ap (λ (s : Locks). record s { kept = length s.locks }) c.self.view_is
