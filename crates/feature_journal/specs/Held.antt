@@ -1,5 +1,5 @@
 -- What a journal holds.
-use Rattle.std.specs.Prelude.{◌≡◌, ◌⊎◌, ◌+◌, ℕ, List, [], ◌∷◌, ◌++◌, length, Bool, not}
+use Rattle.std.specs.Prelude.{◌≡◌, ◌⊎◌, ◌+◌, ℕ, List, [], ◌∷◌, ◌++◌, length, Bool, not, Option, Some}
 use Rattle.disk_core.specs.Disk.{Every}
 use Rattle.disk_core.specs.Sides.{EveryBoth, chosen, spare}
 use Rattle.disk_core.specs.declared.pair.Pair.{Pair}
@@ -8,6 +8,10 @@ use Rattle.feature_journal.specs.declared.side.Append.TheVariants.{Done, Clean}
 use Rattle.feature_journal.specs.declared.side.Append.TheVariants as outcomes
 use Rattle.feature_journal.specs.Side.{side, Closed, Begun}
 use Rattle.feature_journal.specs.Whole.{IsList, Idle, Says}
+
+-- a crash leaves just what a read gives
+abbrev pub IsStable : {D : Type 0} (shown : D → Option (List ℕ)) (images : D → List ℕ → Type 0) → D → Type 0
+IsStable shown images disk = Every (images disk) (λ c. shown disk ≡ Some c)
 
 -- The chosen side says this list, and each image of it has this behind that.
 pub record Held {D : Type 0} (images : D → List ℕ → Type 0) (second : Bool) (generation gate : ℕ) (bodies : List (List ℕ)) (P : List ℕ → List ℕ → Type 0) (disks : Pair D) : Type 0 where

@@ -6,7 +6,7 @@ ghost use Rattle.disk_core.specs.Sides.{Within, Always, chosen, spare};
 ghost use Rattle.feature_journal.specs.Side.{side, Gate};
 ghost use Rattle.feature_journal.specs.Whole.{IsList, OneOf, Ends, Stale, Says};
 ghost use Rattle.feature_journal.specs.Settled.{Reading, Known, SaysOr};
-ghost use Rattle.feature_journal.specs.Held.{HeldClosed};
+ghost use Rattle.feature_journal.specs.Held.{HeldClosed, IsStable};
 
 use crate::side::set_gate;
 use crate::sides::repair_to;
@@ -48,6 +48,7 @@ fn quiet_stale<D: Disk>(disks: &mut Pair<D>, second: bool, is_stale: bool) -> Re
 fn sync_chosen<D: Disk>(disks: &mut Pair<D>, second: bool) -> Result<(), Failed>
     ensures goes { (r : Reading) (gate : ℕ) → Known D.images second gate false true r disks.old → Within D.moment D.since (Says r.lists) disks.old disks.new }
     ensures held { (r : Reading) (gate : ℕ) → Known D.images second gate false true r disks.old → HeldClosed D.images second r.generation gate r.bodies disks.new }
+    ensures stable { OnOk result (IsStable D.shown D.images (chosen second disks.new)) }
     ensures count { (D.faults disks.old.a ≤ D.faults disks.new.a) × (D.faults disks.old.b ≤ D.faults disks.new.b) }
     ensures cause { OnErr result (Rose (D.faults disks.old.a) (D.faults disks.new.a) ⊎ Rose (D.faults disks.old.b) (D.faults disks.new.b)) }
 {
@@ -68,6 +69,7 @@ fn close<D: Disk>(
     requires { (r : Reading) × Known D.images second gate false is_closed r disks.old }
     ensures goes { (r : Reading) → Known D.images second gate false is_closed r disks.old → Within D.moment D.since (SaysOr is_closed r) disks.old disks.new }
     ensures held { OnOk result ((r : Reading) → Known D.images second gate false is_closed r disks.old → HeldClosed D.images second r.generation gate r.bodies disks.new) }
+    ensures stable { OnOk result (IsStable D.shown D.images (chosen second disks.new)) }
     ensures count { (D.faults disks.old.a ≤ D.faults disks.new.a) × (D.faults disks.old.b ≤ D.faults disks.new.b) }
     ensures cause { OnErr result (Rose (D.faults disks.old.a) (D.faults disks.new.a) ⊎ Rose (D.faults disks.old.b) (D.faults disks.new.b)) }
 {
@@ -80,7 +82,8 @@ fn close<D: Disk>(
 
 /// What recovery writes, once both files were synced and read: it closes byte 0 of a stale side, and then the ending
 /// gate, each for good. Until then a crash leaves the list, or, where a tail stands behind that gate, the list with it.
-/// After Ok the files stand for the list alone.
+/// After Ok the files stand for the list alone, and the current side is stable: a gate that reads 0 is not written again,
+/// but the side is synced.
 pub fn settle<D: Disk>(
     disks: &mut Pair<D>,
     second: bool,
@@ -91,6 +94,7 @@ pub fn settle<D: Disk>(
     requires { (r : Reading) × Known D.images second gate is_stale is_closed r disks.old }
     ensures goes { (r : Reading) → Known D.images second gate is_stale is_closed r disks.old → Always D.moment D.since (SaysOr is_closed r) disks.old disks.new }
     ensures held { OnOk result ((r : Reading) → Known D.images second gate is_stale is_closed r disks.old → HeldClosed D.images second r.generation gate r.bodies disks.new) }
+    ensures stable { OnOk result (IsStable D.shown D.images (chosen second disks.new)) }
     ensures count { (D.faults disks.old.a ≤ D.faults disks.new.a) × (D.faults disks.old.b ≤ D.faults disks.new.b) }
     ensures cause { OnErr result (Rose (D.faults disks.old.a) (D.faults disks.new.a) ⊎ Rose (D.faults disks.old.b) (D.faults disks.new.b)) }
 {

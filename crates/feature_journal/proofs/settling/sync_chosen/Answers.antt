@@ -1,9 +1,11 @@
-use Rattle.std.proofs.Common.{[], ◌∷◌, true, false, refl, sym, subst}
+use Rattle.std.proofs.Common.{[], ◌∷◌, ◌∙◌, true, false, refl, sym, subst}
 use Rattle.disk_core.specs.Disk.{Same}
+use Rattle.disk_core.specs.Sides.{chosen}
 use Rattle.disk_core.proofs.Runs.{goes, every_on}
+use Rattle.disk_core.proofs.Seen.{ok_more}
 use Rattle.feature_journal.specs.Side.{Closed, side}
 use Rattle.feature_journal.specs.Whole.{Says}
-use Rattle.feature_journal.specs.Held.{HeldClosed}
+use Rattle.feature_journal.specs.Held.{HeldClosed, IsStable}
 use Rattle.feature_journal.specs.Settled.{Known}
 use Rattle.feature_journal.proofs.Pairs.{closed_goes, held_now}
 use Rattle.feature_journal.proofs.Knowing.{held_of, says_more, within_more}
@@ -36,3 +38,9 @@ returns-else-second-clause-held g c r gate k =
     subst (λ s. HeldClosed g.D.Disk.images s r.generation gate r.bodies (record { a = c.sync-else-second.new.self; b = c.args.disks.now.b })) (sym c.if-second.false)
     (held_now g.D.Disk.images false r.generation gate r.bodies Closed Closed c.args.disks.now (record { a = c.sync-else-second.new.self; b = c.args.disks.now.b }) held
     (every_on g.D.Disk.moment g.D.Disk.since g.D.Disk.images Same (Closed (side r.generation r.bodies)) (Closed (side r.generation r.bodies)) c.args.disks.now.a _ (λ d e b same. subst (Closed (side r.generation r.bodies)) (sym same) b) c.sync-else-second.ensures.crash held.ends) refl)
+
+pub returns-then-second-clause-stable : goal.returns-then-second-clause-stable
+returns-then-second-clause-stable g c = ok_more c.sync.result _ _ (λ stable. subst (λ s. IsStable g.D.Disk.shown g.D.Disk.images (chosen s (record { a = c.args.disks.now.a; b = c.sync.new.self }))) (sym c.if-second.true) (λ image here. c.sync.ensures.same ∙ stable image here)) c.sync.ensures.stable
+
+pub returns-else-second-clause-stable : goal.returns-else-second-clause-stable
+returns-else-second-clause-stable g c = ok_more c.sync-else-second.result _ _ (λ stable. subst (λ s. IsStable g.D.Disk.shown g.D.Disk.images (chosen s (record { a = c.sync-else-second.new.self; b = c.args.disks.now.b }))) (sym c.if-second.false) (λ image here. c.sync-else-second.ensures.same ∙ stable image here)) c.sync-else-second.ensures.stable

@@ -2,7 +2,8 @@ use Rattle.std.proofs.Common.{true, false, refl, sym, subst, inr}
 use Rattle.disk_core.proofs.Runs.{goes_more}
 use Rattle.disk_core.proofs.Seen.{ok_more}
 use Rattle.feature_journal.specs.Side.{Closed, Begun, ClosedOrBegun, side}
-use Rattle.feature_journal.specs.Held.{HeldClosed, HeldBegun}
+use Rattle.disk_core.specs.Sides.{chosen}
+use Rattle.feature_journal.specs.Held.{HeldClosed, HeldBegun, IsStable}
 use Rattle.feature_journal.proofs.Pairs.{held_goes, held_now}
 use Rattle.feature_journal.proofs.sides.repair_to.Goals as goal
 
@@ -41,3 +42,9 @@ returns-else-second-clause-closed g c = ok_more c.repair_on-else-second.result _
     let here = subst (λ s. HeldBegun g.D.Disk.images s generation c.args.gate bodies body c.args.disks.now) c.if-second.false held in
     subst (λ s. HeldClosed g.D.Disk.images s generation c.args.gate bodies (record { a = c.repair_on-else-second.new.disk; b = c.args.disks.now.b })) (sym c.if-second.false)
     (held_now g.D.Disk.images false generation c.args.gate bodies (λ front. Begun front body) Closed c.args.disks.now _ here (closed (side generation bodies) body here.size here.ends) refl)) c.repair_on-else-second.ensures.closed
+
+pub returns-then-second-clause-stable : goal.returns-then-second-clause-stable
+returns-then-second-clause-stable g c = ok_more c.repair_on.result _ _ (λ stable. subst (λ s. IsStable g.D.Disk.shown g.D.Disk.images (chosen s (record { a = c.args.disks.now.a; b = c.repair_on.new.disk }))) (sym c.if-second.true) stable) c.repair_on.ensures.stable
+
+pub returns-else-second-clause-stable : goal.returns-else-second-clause-stable
+returns-else-second-clause-stable g c = ok_more c.repair_on-else-second.result _ _ (λ stable. subst (λ s. IsStable g.D.Disk.shown g.D.Disk.images (chosen s (record { a = c.repair_on-else-second.new.disk; b = c.args.disks.now.b }))) (sym c.if-second.false) stable) c.repair_on-else-second.ensures.stable
