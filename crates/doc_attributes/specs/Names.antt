@@ -13,5 +13,5 @@ abbrev pub is_among : List (List ℕ) → List ℕ → Bool
 is_among names name = list_any (λ n. bytes_eq n name) names
 
 -- the value of the first attribute of this name
-unfoldable pub value_at : List ℕ → List ℕ → List Attribute → Option (List ℕ)
+abbrev pub value_at : List ℕ → List ℕ → List Attribute → Option (List ℕ)
 value_at space local attributes = option_map (λ a. a.value) (find (λ a. is_name space local a.name) attributes)

@@ -27,5 +27,5 @@ abbrev pub least : List (List ℕ) → Option (List ℕ)
 least names = fold (λ found name. Some (lesser found name)) None names
 
 -- the first by name of the attributes that are not listed
-unfoldable pub first_other : List (List ℕ) → List Attribute → Option (List ℕ)
+abbrev pub first_other : List (List ℕ) → List Attribute → Option (List ℕ)
 first_other listed attributes = least (map (λ a. a.name.local) (filter (is_other listed) attributes))

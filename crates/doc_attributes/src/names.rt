@@ -28,7 +28,6 @@ pub fn is_among(names: &[&str], name: &str) -> bool
 }
 
 /// The value of the first attribute of this name. A document's element has at most one (Namespaces in XML 1.0, section 6.3).
-#[tactic(auto, unfolding(crate::specs::Names::value_at))]
 pub fn value_at<'a>(attributes: &'a [Attribute], space: &str, local: &str) -> Option<&'a Text>
     ensures { option_copied result ≡ value_at space.now local.now attributes.now }
 {

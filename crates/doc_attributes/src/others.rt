@@ -29,7 +29,6 @@ fn lesser<'a>(least: Option<&'a Text>, name: &'a Text) -> &'a Text
 
 /// The first by name, in the order of bytes, of the attributes in no namespace that are none of the listed ones: the name that an
 /// element is refused with where it may have the listed ones alone.
-#[tactic(auto, unfolding(crate::specs::Others::first_other))]
 pub fn first_other<'a>(listed: &[&str], attributes: &'a [Attribute]) -> Option<&'a Text>
     ensures { option_copied result ≡ first_other (map (λ n. n.now) listed.now) attributes.now }
 {

@@ -30,7 +30,7 @@ first_is c bs None h = sym (first_missing c bs h)
 
 -- ---- the last
 
-last_found : (c : ℕ) (bs : List ℕ) → before_last c (bs ++ c ∷ []) ≡ Some bs
+pub last_found : (c : ℕ) (bs : List ℕ) → before_last c (bs ++ c ∷ []) ≡ Some bs
 last_found c [] = rw (same_byte c) refl
 last_found c (b ∷ []) = rw (same_byte c) refl
 last_found c (b ∷ d ∷ ds) = ap (option_map (λ t. b ∷ t)) (last_found c (d ∷ ds))

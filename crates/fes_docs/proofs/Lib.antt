@@ -1,4 +1,16 @@
+pub mod Beside
+pub mod Built
+pub mod Compared
+pub mod Drawn
 pub mod Edges
+pub mod Identifiers
+pub mod Likes
+pub mod Named
+pub mod Parts
 pub mod Patterns
+pub mod Places
+pub mod Ranges
 pub mod Readings
 pub mod Steps
+pub mod Values
+pub mod Whole

@@ -3,6 +3,8 @@ pub mod Ids
 pub mod Like
 pub mod Names
 pub mod Operators
+pub mod RoundTrip
 pub mod Sides
 pub mod Spatial
 pub mod Uses
+pub mod Written

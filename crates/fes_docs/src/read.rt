@@ -1,7 +1,6 @@
 ghost use Rattle.std.specs.Prelude.{◌≡◌, [], ◌∷◌, map, None, Some, IfOk};
 ghost use Rattle.std.specs.Option.{option_copied};
 ghost use Rattle.wfs_ends.specs.Read.{GivesBut, each};
-ghost use Rattle.fes_filter.specs.Check.{type_in};
 ghost use Rattle.fes_docs.specs.Filters.{counted, only_id, predicate_of, next_operator, several, one, ids_in, operator_of, content_from, content_of, filter_of};
 ghost use Rattle.fes_docs.specs.declared.fault.FilterDocFault.TheVariants.{OutOfMemory};
 
@@ -11,23 +10,15 @@ use crate::fault::{FilterDocFault, checked, misplaced};
 use crate::ids::{id_at, ids_of};
 use crate::like::like_of;
 use crate::operator::{Operator, Predicate, operator_in};
+use crate::sides::type_in;
 use crate::spatial::{apart_of, box_of, meets_of};
 use doc_tree::Element;
-use feature_values::{FeatureType, Schema};
+use feature_values::Schema;
 use fes_filter::{Filter, FilterFault, IdRef};
 use std::alloc::Global;
 use wfs_ends::{Boxed, List, Mem, Text};
 
 const MOST_OPERATORS: u32 = 1_000;
-
-fn type_in(schema: &Schema, kind: Option<u32>) -> Option<&FeatureType>
-    ensures { option_copied result ≡ type_in schema.now kind }
-{
-    match kind {
-        None => None,
-        Some(kind) => schema.types.items().get(kind as usize),
-    }
-}
 
 // One operator more, where so many may still stand.
 #[tactic(auto, unfolding(crate::specs::Filters::counted))]

@@ -3,7 +3,7 @@
 ghost use Rattle.std.specs.Prelude.{◌≡◌};
 ghost use Rattle.std.specs.Option.{option_copied};
 ghost use Rattle.wfs_ends.specs.Read.{GivesBut};
-ghost use Rattle.fes_filter.specs.Check.{is_same, is_equality, is_comparable};
+ghost use Rattle.fes_filter.specs.Check.{type_in, is_same, is_equality, is_comparable};
 ghost use Rattle.fes_docs.specs.Sides.{property_of, property_at, suited, comparable_at, literal_as, literal_at, beside, right_from, right_of, left_from, left_of, sides_from, sides_in, sides_of};
 ghost use Rattle.fes_docs.specs.declared.fault.FilterDocFault.TheVariants.{OutOfMemory};
 
@@ -11,12 +11,22 @@ use crate::element::{and_no_more, is_fes, missing, named, plain};
 use crate::fault::{FilterDocFault, checked};
 use crate::uses::place_of;
 use doc_tree::Element;
-use feature_values::{FeatureType, ValueFault, ValueKind, read_as, without_prefix};
+use feature_values::{FeatureType, Schema, ValueFault, ValueKind, read_as, without_prefix};
 use fes_filter::{By, Expr, FilterFault};
 use std::alloc::Global;
 use wfs_ends::{List, Text};
 
 // ---- properties
+
+// The type of a number.
+pub(crate) fn type_in(schema: &Schema, kind: Option<u32>) -> Option<&FeatureType>
+    ensures { option_copied result ≡ type_in schema.now kind }
+{
+    match kind {
+        None => None,
+        Some(kind) => schema.types.items().get(kind as usize),
+    }
+}
 
 fn property_of(of_type: Option<&FeatureType>, name: &str) -> Option<(u32, ValueKind)>
     ensures { result ≡ property_of (option_copied of_type.entry) name.now }

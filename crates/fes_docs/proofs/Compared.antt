@@ -1,0 +1,180 @@
+-- Comparisons read back as they were written.
+use Rattle.std.proofs.Common.{◌≡◌, ◌⊎◌, inl, inr, ℕ, Bool, true, false, ◌&&◌, not, List, [], ◌∷◌, Option, Some, None, Result, Ok, Err, refl, sym, ap, subst, ◌∙◌}
+use Rattle.std.specs.Prelude.{codes, if◌then◌else◌}
+use Rattle.std.specs.List.{list_any}
+use Rattle.std.specs.Str.{bytes_eq}
+use Rattle.wfs_ends.specs.Read.{◌>>=◌}
+use Rattle.wfs_ends.proofs.Turns.{bind_ok, ok_is}
+use Rattle.doc_tree.specs.declared.tree.Element.{Element, out-Element}
+use Rattle.gml_docs.specs.Written.{plain_name}
+use Rattle.feature_values.specs.Ids.{is_colon}
+use Rattle.feature_values.specs.declared.schema.ValueKind.{ValueKind}
+use Rattle.feature_values.specs.declared.schema.FeatureType.{FeatureType}
+use Rattle.feature_values.specs.declared.schema.Schema.{Schema}
+use Rattle.fes_filter.specs.Check.{type_in, is_words, is_equality}
+use Rattle.fes_filter.specs.declared.expr.Expr.{Expr}
+use Rattle.fes_filter.specs.declared.expr.Expr.TheVariants.{Property}
+use Rattle.fes_filter.specs.declared.expr.By.{By}
+use Rattle.fes_filter.specs.declared.filter.Filter.{Filter}
+use Rattle.fes_filter.specs.declared.filter.Filter.TheVariants.{Compare}
+use Rattle.fes_filter.specs.declared.fault.FilterFault.TheVariants.{Choice}
+use Rattle.fes_docs.specs.declared.fault.FilterDocFault.{FilterDocFault}
+use Rattle.fes_docs.specs.declared.fault.FilterDocFault.TheVariants.{Operator, Checked}
+use Rattle.doc_attributes.specs.Names.{value_at}
+use Rattle.doc_attributes.specs.Others.{is_other, first_other}
+use Rattle.fes_docs.specs.Names.{is_fes, text_of, value_of, refused, named, no_more, no_others}
+use Rattle.fes_docs.specs.Sides.{Sides, comparable_at, literal_as, literal_at, beside, right_from, right_of, left_from, left_of, sides_from, sides_in, sides_of, match_case, fold_by, fold_of, action_of, only_matches, folded, compare_of}
+use Rattle.fes_docs.specs.Written.{element, reference, side, comparison_name, case_attributes, attribute, compare_tree}
+use Rattle.fes_docs.proofs.Built.{no_more_at_end, has_children, has_value, has_others}
+use Rattle.fes_docs.proofs.Beside.{one_of_two, named_reference, reference_stands, comparable_again, literal_written, beside_again}
+
+-- ---- matchCase
+
+equal_if : (b c d : Bool) (one two : FilterDocFault) → (if b then Ok false else (if c then (if d then Ok true else Err one) else Err two)) ≡ Ok true → d ≡ true
+equal_if true c d one two e = absurd cc
+equal_if false true true one two e = refl
+equal_if false true false one two e = absurd cc
+equal_if false false d one two e = absurd cc
+
+equality_is : (by : By) (r : Option (List ℕ)) → fold_by by r ≡ Ok true → is_equality by ≡ true
+equality_is by None e = absurd cc
+equality_is by (Some value) e = equal_if (bytes_eq value (codes "true")) (bytes_eq value (codes "false")) (is_equality by) _ _ e
+
+case_again : (by : By) (fold : Bool) (r : Option (List ℕ)) → fold_by by r ≡ Ok fold → fold_by by (value_at [] match_case (case_attributes fold)) ≡ Ok fold
+unfolding attribute plain_name
+case_again by true r e = rw (equality_is by r e) refl
+case_again by false r e = refl
+
+no_action : (fold : Bool) → value_at [] (codes "matchAction") (case_attributes fold) ≡ None
+unfolding attribute plain_name
+no_action true = refl
+no_action false = refl
+
+no_other : (fold : Bool) → first_other (match_case ∷ codes "matchAction" ∷ []) (case_attributes fold) ≡ None
+unfolding attribute plain_name is_other
+no_other true = refl
+no_other false = refl
+
+module _ (parameters : Option (List (List ℕ))) (schema : Schema) (kind : Option ℕ) (no_colon : list_any is_colon schema.prefix ≡ false) where
+  abbrev of_type : Option FeatureType
+  of_type = type_in schema kind
+
+  abbrev written : Expr → Element
+  written = side parameters schema kind
+
+  abbrev property : ℕ → Element
+  property = reference schema kind
+
+  -- ---- sides
+
+  abbrev SidesAgain : By → Sides → Type 0
+  SidesAgain by s = (whole : Element) → sides_in parameters of_type by whole (written s.0 ∷ written s.1 ∷ []) ≡ Ok s
+
+  right_again : (by : By) (e f : Element) (rest : List Element) (p : ℕ × ValueKind) (s : Sides) → comparable_at of_type by e ≡ Ok p → right_from parameters of_type e p f rest ≡ Ok s → SidesAgain by s
+  unfolding right_from sides_from
+  right_again by e f rest p s h g =
+      let right = bind_ok (beside parameters of_type p.1 (text_of e) f) (λ r. no_more rest >>= λ _. Ok (Property p.0, r, p.1)) s g in
+      let end = bind_ok (no_more rest) (λ _. Ok (Property p.0, right.0, p.1)) s right.2 in
+      subst (SidesAgain by) (ok_is FilterDocFault (Property p.0, right.0, p.1) s end.2) (λ whole.
+      rw (
+        named_reference parameters schema kind no_colon p.0,
+        comparable_again parameters schema kind no_colon by e p h,
+        beside_again parameters schema kind no_colon p.1 (text_of e) (text_of (property p.0)) f right.0 right.1,
+        no_more_at_end,
+      ) refl)
+
+  left_again : (by : By) (e f : Element) (rest : List Element) (place : Option ℕ) (s : Sides) → literal_at parameters e ≡ Ok place → left_from of_type by e place f rest ≡ Ok s → SidesAgain by s
+  unfolding left_from sides_from
+  left_again by e f rest place s h g =
+      let name = bind_ok (named (codes "ValueReference") f) (λ _. comparable_at of_type by f >>= λ p. literal_as p.1 (text_of f) place (text_of e) >>= λ l. no_more rest >>= λ _. Ok (l, Property p.0, p.1)) s g in
+      let p = bind_ok (comparable_at of_type by f) (λ p. literal_as p.1 (text_of f) place (text_of e) >>= λ l. no_more rest >>= λ _. Ok (l, Property p.0, p.1)) s name.2 in
+      let left = bind_ok (literal_as p.0.1 (text_of f) place (text_of e)) (λ l. no_more rest >>= λ _. Ok (l, Property p.0.0, p.0.1)) s p.2 in
+      let end = bind_ok (no_more rest) (λ _. Ok (left.0, Property p.0.0, p.0.1)) s left.2 in
+      let w = literal_written parameters schema kind no_colon p.0.1 (text_of f) e place left.0 h left.1 in
+      subst (SidesAgain by) (ok_is FilterDocFault (left.0, Property p.0.0, p.0.1) s end.2) (λ whole.
+      rw (
+        w.no_reference,
+        w.literal,
+        w.at,
+        reference_stands parameters schema kind no_colon p.0.0,
+        comparable_again parameters schema kind no_colon by f p.0 p.1,
+        w.value (text_of (property p.0.0)),
+        no_more_at_end,
+      ) refl)
+
+  right_of_again : (by : By) (whole e : Element) (rest : List Element) (p : ℕ × ValueKind) (s : Sides) → comparable_at of_type by e ≡ Ok p → right_of parameters of_type whole e p rest ≡ Ok s → SidesAgain by s
+  right_of_again by whole e [] p s h g = absurd cc
+  right_of_again by whole e (f ∷ rest) p s h g = right_again by e f rest p s h g
+
+  left_of_again : (by : By) (whole e : Element) (rest : List Element) (place : Option ℕ) (s : Sides) → literal_at parameters e ≡ Ok place → left_of of_type by whole e place rest ≡ Ok s → SidesAgain by s
+  left_of_again by whole e [] place s h g = absurd cc
+  left_of_again by whole e (f ∷ rest) place s h g = left_again by e f rest place s h g
+
+  first_again : (by : By) (whole e : Element) (rest : List Element) (s : Sides)
+      → ((comparable_at of_type by e >>= λ p. right_of parameters of_type whole e p rest) ≡ Ok s) ⊎ ((literal_at parameters e >>= λ place. left_of of_type by whole e place rest) ≡ Ok s) → SidesAgain by s
+  first_again by whole e rest s (inl h) =
+      let p = bind_ok (comparable_at of_type by e) (λ p. right_of parameters of_type whole e p rest) s h in
+      right_of_again by whole e rest p.0 s p.1 p.2
+  first_again by whole e rest s (inr h) =
+      let place = bind_ok (literal_at parameters e) (λ place. left_of of_type by whole e place rest) s h in
+      left_of_again by whole e rest place.0 s place.1 place.2
+
+  sides_again : (by : By) (whole : Element) (es : List Element) (s : Sides) → sides_in parameters of_type by whole es ≡ Ok s → SidesAgain by s
+  unfolding sides_from
+  sides_again by whole [] s h = absurd cc
+  sides_again by whole (e ∷ rest) s h = first_again by whole e rest s (one_of_two (is_fes (codes "ValueReference") e) (is_fes (codes "Literal") e) _ _ _ s h)
+
+  -- ---- the whole
+
+  module _ (by : By) (x y : Expr) (fold : Bool) where
+    abbrev tree : Element
+    tree = compare_tree parameters schema kind by x y fold
+
+    tree_children : (out-Element tree).children ≡ written x ∷ written y ∷ []
+    unfolding compare_tree
+    tree_children = has_children (comparison_name by) (case_attributes fold) (written x ∷ written y ∷ []) []
+
+    tree_value : (want : List ℕ) → value_of want tree ≡ value_at [] want (case_attributes fold)
+    unfolding compare_tree
+    tree_value want = has_value (comparison_name by) (case_attributes fold) (written x ∷ written y ∷ []) [] want
+
+    tree_others : (listed : List (List ℕ)) → no_others listed tree ≡ refused (first_other listed (case_attributes fold))
+    unfolding compare_tree
+    tree_others listed = has_others (comparison_name by) (case_attributes fold) (written x ∷ written y ∷ []) [] listed
+
+    action_again : action_of tree ≡ Ok tt
+    unfolding action_of
+    action_again = rw (tree_value (codes "matchAction"), no_action fold) refl
+
+    only_again : only_matches tree ≡ Ok tt
+    unfolding only_matches
+    only_again = tree_others (match_case ∷ codes "matchAction" ∷ []) ∙ ap refused (no_other fold)
+
+    fold_again : (e : Element) → fold_of by e ≡ Ok fold → fold_of by tree ≡ Ok fold
+    unfolding fold_of
+    fold_again e h = ap (fold_by by) (tree_value match_case) ∙ case_again by fold (value_of match_case e) h
+
+  pub compare_again : (by : By) (e : Element) (f : Filter) → compare_of parameters of_type by e ≡ Ok f
+      → (x : Expr) × (y : Expr) × (fold : Bool) × (f ≡ Compare by x y fold) × (compare_of parameters of_type by (compare_tree parameters schema kind by x y fold) ≡ Ok f)
+  unfolding compare_of sides_of
+  compare_again by e f h =
+      let fold = bind_ok (fold_of by e) (λ fold. action_of e >>= λ _. only_matches e >>= λ _. sides_in parameters of_type by e (out-Element e).children >>= λ s. folded fold s.2 >>= λ _. Ok (Compare by s.0 s.1 fold)) f h in
+      let action = bind_ok (action_of e) (λ _. only_matches e >>= λ _. sides_in parameters of_type by e (out-Element e).children >>= λ s. folded fold.0 s.2 >>= λ _. Ok (Compare by s.0 s.1 fold.0)) f fold.2 in
+      let only = bind_ok (only_matches e) (λ _. sides_in parameters of_type by e (out-Element e).children >>= λ s. folded fold.0 s.2 >>= λ _. Ok (Compare by s.0 s.1 fold.0)) f action.2 in
+      let s = bind_ok (sides_in parameters of_type by e (out-Element e).children) (λ s. folded fold.0 s.2 >>= λ _. Ok (Compare by s.0 s.1 fold.0)) f only.2 in
+      let end = bind_ok (folded fold.0 s.0.2) (λ _. Ok (Compare by s.0.0 s.0.1 fold.0)) f s.2 in
+      let f_is : f ≡ Compare by s.0.0 s.0.1 fold.0 = sym (ok_is FilterDocFault (Compare by s.0.0 s.0.1 fold.0) f end.2) in
+      let whole = tree by s.0.0 s.0.1 fold.0 in (
+        s.0.0,
+        s.0.1,
+        fold.0,
+        f_is,
+        rw (
+          fold_again by s.0.0 s.0.1 fold.0 e fold.1,
+          action_again by s.0.0 s.0.1 fold.0,
+          only_again by s.0.0 s.0.1 fold.0,
+          tree_children by s.0.0 s.0.1 fold.0,
+          sides_again by e (out-Element e).children s.0 s.1 whole,
+          end.1,
+        ) (ap Ok (sym f_is)),
+      )

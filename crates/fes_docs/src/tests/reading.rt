@@ -1,0 +1,186 @@
+//! Filters as documents give them, with the filter that the rules name.
+
+use super::*;
+use std::test::Fail;
+
+static SENT: [(&str, &str); 14] = [
+    (
+        "PropertyIsEqualTo(|ValueReference=m:label|Literal=A|)",
+        "Compare { by: Equal, left: Property(0), right: Literal(Words(Text { text: \"A\" })), fold: false }",
+    ),
+    (
+        "PropertyIsEqualTo(|@matchCase=true|@matchAction=Any|ValueReference=label|Literal=A|)",
+        "Compare { by: Equal, left: Property(0), right: Literal(Words(Text { text: \"A\" })), fold: false }",
+    ),
+    (
+        "PropertyIsNotEqualTo(|@matchCase=false|@matchAction=One|Literal=long text|ValueReference=m:label|)",
+        "Compare { by: NotEqual, left: Literal(Words(Text { text: \"long text\" })), right: Property(0), fold: true }",
+    ),
+    (
+        "PropertyIsGreaterThanOrEqualTo(|ValueReference=m:size|Literal= -7 |)",
+        "Compare { by: GreaterEqual, left: Property(1), right: Literal(Whole(-7)), fold: false }",
+    ),
+    (
+        "PropertyIsLessThan(|ValueReference=m:label|ValueReference=m:other|)",
+        "Compare { by: Less, left: Property(0), right: Property(4), fold: false }",
+    ),
+    (
+        "PropertyIsEqualTo(|ValueReference=m:lit|Literal=1|)",
+        "Compare { by: Equal, left: Property(3), right: Literal(Truth(true)), fold: false }",
+    ),
+    (
+        "BBOX(|ValueReference=m:place|gml:Envelope(|@srsName=urn:ogc:def:crs:EPSG::25832|gml:lowerCorner=0 1|gml:upperCorner=2 3|)|)",
+        "InBox { property: Some(2), area: Box2 { low: Pos { x: 0, y: 1 }, high: Pos { x: 2, y: 3 } } }",
+    ),
+    (
+        "BBOX(|gml:Envelope(|gml:lowerCorner=0 1|gml:upperCorner=2 3|)|)",
+        "InBox { property: None, area: Box2 { low: Pos { x: 0, y: 1 }, high: Pos { x: 2, y: 3 } } }",
+    ),
+    (
+        "And(|PropertyIsNull(|ValueReference=m:place|)|Not(|PropertyIsNull(|ValueReference=m:size|)|)|)",
+        "Both(List { items: [IsNull(2), Not(Boxed { inner: IsNull(1) })] })",
+    ),
+    (
+        "Or(|ResourceId(|@rid=Mark.1|)|PropertyIsNull(|ValueReference=m:size|)|)",
+        "Either(List { items: [Ids(List { items: [Known(Rid { kind: 0, number: 1 })] }), IsNull(1)] })",
+    ),
+    (
+        "PropertyIsLike(|@wildCard=%|@singleChar=_|@escapeChar=\\|ValueReference=m:label|Literal=a\\%_%|)",
+        "Like { property: 0, pattern: List { items: [Exactly('a'), Exactly('%'), One, Many] } }",
+    ),
+    (
+        "ResourceId(|@rid=Mark.1|)|ResourceId(|@rid=Mark.02|)|ResourceId(|@rid=Mark.2|)",
+        "Ids(List { items: [Known(Rid { kind: 0, number: 1 }), Nobody, Known(Rid { kind: 0, number: 2 })] })",
+    ),
+    (
+        "PropertyIsBetween(|ValueReference=m:size|LowerBoundary(|Literal=1|)|UpperBoundary(|ValueReference=size|)|)",
+        "Between { property: 1, low: Literal(Whole(1)), high: Property(1) }",
+    ),
+    (
+        "Intersects(|ValueReference=m:place|gml:Point(|@srsName=EPSG:25832|gml:pos=1 2|)|)",
+        "Meets { property: 2, shape: At(Pos { x: 1, y: 2 }) }",
+    ),
+];
+
+#[test]
+fn filters_that_clients_send_are_read(rt: HostRuntime) {
+    for row in SENT.iter() {
+        let (words, wanted) = *row;
+        assert_eq!(rt; other(told(rt.alloc(), words), wanted), Ok(None), "{words}");
+    }
+}
+
+static MORE: [(&str, &str); 12] = [
+    (
+        "PropertyIsNotEqualTo(|ValueReference=m:lit|Literal= false |)",
+        "Compare { by: NotEqual, left: Property(3), right: Literal(Truth(false)), fold: false }",
+    ),
+    (
+        "PropertyIsLessThanOrEqualTo(|ValueReference=:label|Literal=|)",
+        "Compare { by: LessEqual, left: Property(0), right: Literal(Words(Text { text: \"\" })), fold: false }",
+    ),
+    (
+        "PropertyIsGreaterThan(|@x:id=1|ValueReference=a:size|Literal=+5|)",
+        "Compare { by: Greater, left: Property(1), right: Literal(Whole(5)), fold: false }",
+    ),
+    (
+        "PropertyIsGreaterThan(|=text that says nothing|ValueReference=a:size|Literal=+5|)",
+        "Compare { by: Greater, left: Property(1), right: Literal(Whole(5)), fold: false }",
+    ),
+    (
+        "PropertyIsEqualTo(|ValueReference=label|Literal=${id}|)",
+        "Compare { by: Equal, left: Property(0), right: Literal(Words(Text { text: \"${id}\" })), fold: false }",
+    ),
+    ("ResourceId(|@rid=${id}|)", "Ids(List { items: [Nobody] })"),
+    ("ResourceId(|@rid=|)", "Ids(List { items: [Nobody] })"),
+    (
+        "PropertyIsLike(|@wildCard=*|@singleChar=.|@escapeChar=!|ValueReference=other|Literal=A!*.!x!!|)",
+        "Like { property: 4, pattern: List { items: [Exactly('A'), Exactly('*'), One, Exactly('x'), Exactly('!')] } }",
+    ),
+    (
+        "PropertyIsLike(|@wildCard=*|@singleChar=.|@escapeChar=!|ValueReference=label|Literal=|)",
+        "Like { property: 0, pattern: List { items: [] } }",
+    ),
+    (
+        "Disjoint(|ValueReference=place|gml:Point(|gml:pos=-1 +2.0|)|)",
+        "Apart { property: 2, shape: At(Pos { x: -1, y: 2 }) }",
+    ),
+    (
+        "PropertyIsBetween(|ValueReference=label|LowerBoundary(|Literal=b|)|UpperBoundary(|Literal=a|)|)",
+        "Between { property: 0, low: Literal(Words(Text { text: \"b\" })), high: Literal(Words(Text { text: \"a\" })) }",
+    ),
+    (
+        "Not(|Not(|ResourceId(|@rid=Mark.18446744073709551615|)|)|)",
+        "Not(Boxed { inner: Not(Boxed { inner: Ids(List { items: [Known(Rid { kind: 0, number: 18446744073709551615 })] }) }) })",
+    ),
+];
+
+#[test]
+fn names_values_and_patterns_are_read(rt: HostRuntime) {
+    for row in MORE.iter() {
+        let (words, wanted) = *row;
+        assert_eq!(rt; other(told(rt.alloc(), words), wanted), Ok(None), "{words}");
+    }
+}
+
+static STORED: [(&str, &str); 8] = [
+    (
+        "PropertyIsEqualTo(|Literal=${text}|ValueReference=size|)",
+        "Compare { by: Equal, left: Parameter(1), right: Property(1), fold: false }",
+    ),
+    (
+        "ResourceId(|@rid=${id}|)",
+        "Ids(List { items: [Parameter(0)] })",
+    ),
+    ("ResourceId(|@rid=${}|)", "Ids(List { items: [Nobody] })"),
+    ("ResourceId(|@rid=${ID}|@a=1|)", "10 ID"),
+    (
+        "PropertyIsEqualTo(|Literal=${no}|ValueReference=none|)",
+        "10 no",
+    ),
+    (
+        "PropertyIsEqualTo(|ValueReference=none|Literal=${no}|)",
+        "11 none",
+    ),
+    (
+        "PropertyIsEqualTo(|ValueReference=label|Literal= ${id}|)",
+        "Compare { by: Equal, left: Property(0), right: Literal(Words(Text { text: \" ${id}\" })), fold: false }",
+    ),
+    (
+        "PropertyIsLike(|@wildCard=*|@singleChar=.|@escapeChar=!|ValueReference=label|Literal=$|)",
+        "Like { property: 0, pattern: List { items: [Exactly('$')] } }",
+    ),
+];
+
+#[test]
+fn parameters_of_stored_texts_are_read(rt: HostRuntime) {
+    for row in STORED.iter() {
+        let (words, wanted) = *row;
+        assert_eq!(rt;
+            other(told_in(rt.alloc(), words), wanted),
+            Ok(None),
+            "{words}"
+        );
+    }
+}
+
+// So many nulls within an Or.
+fn many(alloc: Global, count: u32) -> Mem<String> {
+    let mut words = String::new(alloc);
+    words.push_str("Or(|")?;
+    for _ in 0..count {
+        words.push_str("PropertyIsNull(|ValueReference=size|)|")?;
+    }
+    words.push_str(")")?;
+    let found = told(alloc, words.as_str())?;
+    if found.as_str().starts_with("Either") {
+        return Ok(format!(in alloc; "read")?);
+    }
+    Ok(found)
+}
+
+#[test]
+fn a_thousand_operators_are_read_and_no_more(rt: HostRuntime) {
+    assert_eq!(rt; other(many(rt.alloc(), 999), "read"), Ok(None));
+    assert_eq!(rt; other(many(rt.alloc(), 1_000), "12 Filter"), Ok(None));
+}
