@@ -89,6 +89,10 @@ placed found p = shaped (position_of p.x p.y) >>= λ q. Ok (found ++ q ∷ [])
 unfoldable pub positions_of : List ℕ → Result (List Point) GmlFault
 positions_of text = points_of (words text) >>= each placed []
 
+-- the position of two words, which lies within range
+unfoldable pub position_of_words : List ℕ → List ℕ → Result Point GmlFault
+position_of_words a b = located a b >>= shaped
+
 abbrev pub only_located : List (List ℕ) → Result (Result Point GeomFault) GmlFault
 only_located (a ∷ b ∷ []) = located a b
 only_located other = Err Number

@@ -16,6 +16,7 @@ mod words;
 pub use envelope::read_envelope;
 pub use fault::GmlFault;
 pub use laws::{round_trip, stands_alike};
+pub use numbers::read_position;
 pub use print::{GeometryId, geometry_length, put_geometry};
 pub use read::read_geometry;
 pub use tree::geometry_tree;

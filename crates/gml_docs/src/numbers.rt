@@ -2,7 +2,7 @@ ghost use Rattle.std.specs.Prelude.{◌≡◌, ◌≤◌, ◌*◌, ◌+◌, ◌-
 ghost use Rattle.std.specs.List.{list_all};
 ghost use Rattle.std.specs.Char.{is_ascii_digit};
 ghost use Rattle.std.specs.Str.Parse.{digits_value};
-ghost use Rattle.gml_docs.specs.Numbers.{digit_count, is_fraction, unsigned_of, coordinate_of, located, near, near_natural};
+ghost use Rattle.gml_docs.specs.Numbers.{digit_count, is_fraction, unsigned_of, coordinate_of, located, position_of_words, near, near_natural};
 
 use crate::fault::GmlFault;
 use geom_core::{GeomFault, Pos};
@@ -114,4 +114,16 @@ pub(crate) fn position_of(a: &[u8], b: &[u8]) -> Result<Result<Pos, GeomFault>, 
         return Err(GmlFault::Number);
     };
     Ok(Pos::new(x, y))
+}
+
+/// The position at the coordinates that two texts write, each as one word of a `gml:pos` (OGC 07-036, 10.1.4.1): an
+/// optional sign, digits, and optionally a dot and one or more zeros, without white space.
+///
+/// `Number`: a text is no coordinate. `Shape`, with `OutOfRange`: a coordinate is beyond 1,000,000,000 in magnitude, where
+/// both texts are one. It takes no memory, so `OutOfMemory` is no answer, and neither are `Kind` and `Srs`.
+#[tactic(auto, unfolding(crate::specs::Numbers::position_of_words))]
+pub fn read_position(x: &str, y: &str) -> Result<Pos, GmlFault>
+    ensures { result ≡ position_of_words x.now y.now }
+{
+    Ok(position_of(x.as_bytes(), y.as_bytes())??)
 }

@@ -1,3 +1,4 @@
 pub mod Finds
+pub mod Keys
 pub mod Reading
 pub mod Splits

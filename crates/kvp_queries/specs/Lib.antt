@@ -1,2 +1,5 @@
+pub mod Judging
 pub mod Pairs
 pub mod Request
+pub mod Selection
+pub mod Sorting

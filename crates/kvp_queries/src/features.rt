@@ -1,19 +1,22 @@
-ghost use Rattle.std.specs.Prelude.{◌≡◌, ◌<◌, [], ◌∷◌, IfOk, IfSome, MatchOption, length, option_map};
-ghost use Rattle.std.specs.List.{list_any, slice_split};
-ghost use Rattle.std.specs.Str.{IsUtf8};
+ghost use Rattle.std.specs.Prelude.{◌≡◌, option_map};
 ghost use Rattle.wfs_ends.specs.Read.{GivesBut};
 ghost use Rattle.wfs_machine.specs.declared.fault.AskFault.TheVariants.{OutOfMemory};
-ghost use Rattle.kvp_queries.specs.Request.{unread, is_comma, type_names_of, type_of, kind_of, srs_of, id_of, ids_in, filter_of, property_name_of, typed_of, others_of, enough_of, query_of};
+ghost use Rattle.kvp_queries.specs.Judging.{unread};
+ghost use Rattle.kvp_queries.specs.Selection.{type_names_of, type_of, kind_of, srs_of};
+ghost use Rattle.kvp_queries.specs.Request.{property_name_of, typed_of, enough_of, query_of};
 
+use crate::lists::has_comma;
 use crate::pairs::value_of;
-use feature_values::{Schema, read_rid, without_prefix};
-use fes_filter::{Filter, IdRef, Query};
+use crate::selecting::chosen;
+use crate::sorting::keys_of;
+use feature_values::{Schema, without_prefix};
+use fes_filter::Query;
 use std::alloc::Global;
-use wfs_ends::{List, Mem, Text};
+use wfs_ends::Text;
 use wfs_machine::{AskFault, is_listed, refused};
 
 // Refuses a parameter that is not built yet.
-#[tactic(auto, unfolding(crate::specs::Request::unread, wfs_ends::specs::Read::unless))]
+#[tactic(auto, unfolding(crate::specs::Judging::unread, wfs_ends::specs::Read::unless))]
 fn unread(alloc: Global, name: &str, given: &[(Text, Text)]) -> Result<(), AskFault>
     ensures { GivesBut OutOfMemory (λ _. tt) result (unread name.now given.now) }
 {
@@ -24,7 +27,7 @@ fn unread(alloc: Global, name: &str, given: &[(Text, Text)]) -> Result<(), AskFa
 }
 
 // The names of types, under either spelling.
-#[tactic(auto, unfolding(crate::specs::Request::type_names_of))]
+#[tactic(auto, unfolding(crate::specs::Selection::type_names_of))]
 fn type_names_of<'a>(given: &'a [(Text, Text)]) -> Option<&'a str>
     ensures { option_map (λ t. t.now) result ≡ type_names_of given.now }
 {
@@ -34,14 +37,8 @@ fn type_names_of<'a>(given: &'a [(Text, Text)]) -> Option<&'a str>
     }
 }
 
-fn has_comma(text: &str) -> bool
-    ensures { result ≡ list_any is_comma text.now }
-{
-    text.as_bytes().iter().any(|b| *b == b',')
-}
-
 // The type of a name.
-#[tactic(auto, unfolding(crate::specs::Request::type_of, wfs_ends::specs::Read::unless))]
+#[tactic(auto, unfolding(crate::specs::Selection::type_of, wfs_ends::specs::Read::unless))]
 fn type_of(alloc: Global, schema: &Schema, text: &str) -> Result<u32, AskFault>
     ensures { GivesBut OutOfMemory (λ k. k) result (type_of schema.now text.now) }
 {
@@ -55,7 +52,7 @@ fn type_of(alloc: Global, schema: &Schema, text: &str) -> Result<u32, AskFault>
 }
 
 // The type asked for, where one is.
-#[tactic(auto, unfolding(crate::specs::Request::kind_of))]
+#[tactic(auto, unfolding(crate::specs::Selection::kind_of))]
 fn kind_of(alloc: Global, schema: &Schema, given: &[(Text, Text)]) -> Result<Option<u32>, AskFault>
     ensures { GivesBut OutOfMemory (λ k. k) result (kind_of schema.now given.now) }
 {
@@ -67,7 +64,7 @@ fn kind_of(alloc: Global, schema: &Schema, given: &[(Text, Text)]) -> Result<Opt
 }
 
 // The reference system.
-#[tactic(auto, unfolding(crate::specs::Request::srs_of, wfs_ends::specs::Read::unless))]
+#[tactic(auto, unfolding(crate::specs::Selection::srs_of, wfs_ends::specs::Read::unless))]
 fn srs_of(alloc: Global, schema: &Schema, given: &[(Text, Text)]) -> Result<(), AskFault>
     ensures { GivesBut OutOfMemory (λ _. tt) result (srs_of schema.now given.now) }
 {
@@ -78,54 +75,6 @@ fn srs_of(alloc: Global, schema: &Schema, given: &[(Text, Text)]) -> Result<(), 
         return Err(refused(alloc, 11, "srsName"));
     }
     Ok(())
-}
-
-// What a resource id refers to.
-#[tactic(auto, unfolding(crate::specs::Request::id_of))]
-fn id_of(schema: &Schema, text: &str) -> IdRef
-    ensures { result ≡ id_of schema.now text.now }
-{
-    match read_rid(schema, text) {
-        Some(id) => IdRef::Known(id),
-        None => IdRef::Nobody,
-    }
-}
-
-// The part before the first comma, and what stands behind it.
-#[tactic(auto, using(crate::proofs::Splits::first_part, crate::proofs::Splits::one_part))]
-fn cut(text: &str) -> Option<(&str, &str)>
-    ensures parts { MatchOption result (slice_split is_comma text.now ≡ text.now ∷ []) (λ x. slice_split is_comma text.now ≡ x.0.now ∷ slice_split is_comma x.1.now) }
-    ensures text { IfSome result (λ x. IsUtf8 x.1.now) }
-    ensures shorter { IfSome result (λ x. length x.1.now < length text.now) }
-{
-    text.split_once(',')
-}
-
-// The resource ids of a list with commas between them.
-#[tactic(auto, unfolding(crate::specs::Request::ids_in))]
-fn ids_in(alloc: Global, schema: &Schema, text: &str) -> Mem<List<IdRef>>
-    ensures { IfOk result (λ ids. ids ≡ ids_in schema.now text.now) }
-{
-    let mut ids = Vec::new(alloc);
-    let mut rest = text;
-    while let Some((first, others)) = cut(rest) {
-        ids.push(id_of(schema, first))?;
-        rest = others;
-    }
-    ids.push(id_of(schema, rest))?;
-    Ok(List::of(ids))
-}
-
-// The filter that resource ids stand for, where there are any.
-#[tactic(auto, unfolding(crate::specs::Request::filter_of))]
-fn filter_of(alloc: Global, schema: &Schema, given: &[(Text, Text)]) -> Mem<Option<Filter>>
-    ensures { IfOk result (λ filter. filter ≡ filter_of schema.now given.now) }
-{
-    let Some(text) = value_of(given, "resourceId") else {
-        return Ok(None);
-    };
-    let ids = ids_in(alloc, schema, text)?;
-    Ok(Some(Filter::Ids(ids)))
 }
 
 // Features come with all their properties.
@@ -153,17 +102,6 @@ fn typed_of(alloc: Global, schema: &Schema, given: &[(Text, Text)]) -> Result<Op
     Ok(kind)
 }
 
-// What else the query of features has.
-#[tactic(auto, unfolding(crate::specs::Request::others_of))]
-fn others_of(alloc: Global, given: &[(Text, Text)]) -> Result<(), AskFault>
-    ensures { GivesBut OutOfMemory (λ _. tt) result (others_of given.now) }
-{
-    unread(alloc, "filter", given)?;
-    unread(alloc, "bbox", given)?;
-    unread(alloc, "sortBy", given)?;
-    property_name_of(alloc, given)
-}
-
 // Without a type, resource ids have to be given.
 #[tactic(auto, unfolding(crate::specs::Request::enough_of, wfs_ends::specs::Read::unless))]
 fn enough_of(alloc: Global, kind: Option<u32>, given: &[(Text, Text)]) -> Result<(), AskFault>
@@ -185,9 +123,9 @@ pub(crate) fn query_of(
     ensures { GivesBut OutOfMemory (λ q. q) result (query_of schema.now given.now) }
 {
     let kind = typed_of(alloc, schema, given)?;
-    others_of(alloc, given)?;
+    let filter = chosen(alloc, schema, kind, given)?;
+    let sort = keys_of(alloc, schema, kind, given)?;
+    property_name_of(alloc, given)?;
     enough_of(alloc, kind, given)?;
-    let filter = filter_of(alloc, schema, given)?;
-    let sort = List::of(Vec::new(alloc));
     Ok(Query { kind, filter, sort })
 }

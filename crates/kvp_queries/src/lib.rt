@@ -4,10 +4,13 @@
 
 mod features;
 mod link;
+mod lists;
 mod names;
 mod pairs;
 mod presenting;
 mod request;
+mod selecting;
+mod sorting;
 
 pub use request::read_query;
 

@@ -132,17 +132,30 @@ fn features_of(
 }
 
 /// Reads a request that came as a query of key-value pairs (OGC 09-025r2, section 6.2.5): what stands behind the `?` of the request's
-/// target, with its escapes. GetFeature is read, without `storedQuery_id`, `filter`, `bbox` and `sortBy`.
+/// target, with its escapes. GetFeature is read, without `storedQuery_id`.
 ///
 /// Names count without their case, values with it, and a pair whose name or value is empty counts as not there. Names that the
 /// operation does not list are ignored. The first of these refusals is answered, by its row of the table of refusals (docs/FORMATS.md) and
 /// with the name as it is listed: a name comes twice that some operation lists (8), in the query's order, where `typeName`
 /// and `typeNames` of one value count as one; no `service` (10), or another than `WFS` (11); no `request` (10), or one that is no
 /// operation or none that may come as a query (9, with the operation); a `version` other than `2.0.0` and `2.0.2` (11); and then, in
-/// this order, a `count` or `startIndex` that is no number from 0 to 4,294,967,295, a `resultType` other than `results` and `hits`, and
-/// an `outputFormat` other than GML 3.2 (11 each); a `resolve` other than `none` (12); more than one type (12) or one that the schema
-/// does not have (11, both with `typeNames`); an `srsName` that the schema does not have (11); a `propertyName` other than `*`
-/// (12); and neither `typeNames` nor `resourceId` (10, with `typeNames`). Row 99 stands at the place of what is not built yet.
+/// this order:
+///
+/// - a `count` or `startIndex` that is no number from 0 to 4,294,967,295, a `resultType` other than `results` and `hits`, and an
+///   `outputFormat` other than GML 3.2 (11 each); a `resolve` other than `none` (12);
+/// - more than one type (12) or one that the schema does not have (11, both with `typeNames`); an `srsName` that the schema does not
+///   have (11);
+/// - a `filter` that is no document (8), or what `fes_docs::read_filter` says of it for the type, or for no type;
+/// - a `bbox` (11) that is not the two coordinates of a lower corner, those of an upper corner of which none lies below the lower one's,
+///   and then a name of the schema's reference system or none, with commas between them (OGC 06-121r9, section 10.2.3); a coordinate
+///   is as `gml_docs::read_position` reads it, and the corners may be one position;
+/// - more than one of `resourceId`, `filter` and `bbox` (11, with the last of them in this order);
+/// - a `sortBy` without a type (11); one that is no list, with commas between them, of properties of the type, each with `ASC` or
+///   `DESC` behind a space or nothing (OGC 09-026r2, section 7.12): a name that the type does not have (11, with the name as given), and a
+///   geometry or another word (11, with `sortBy`);
+/// - a `propertyName` other than `*` (12); and neither `typeNames` nor `resourceId` (10, with `typeNames`).
+///
+/// Row 99 stands at the place of what is not built yet.
 ///
 /// `OutOfMemory`: there is no memory for the request or the refusal.
 #[tactic(auto, unfolding(crate::specs::Request::asked_of))]

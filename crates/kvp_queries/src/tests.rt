@@ -1,31 +1,53 @@
+//! Queries and the requests that they ask. What is expected comes from OGC 09-025r2 and OGC 06-121r9, and where these leave a choice
+//! from what `read_query` says.
+
 use super::*;
 use feature_values::{FeatureType, Property, Schema, ValueKind};
-use fes_filter::{Filter, IdRef, Query};
+use fes_filter::{Filter, IdRef, Query, SortKey};
+use geom_core::{Box2, Pos};
 use std::alloc::Global;
-use std::test::Fail;
 use wfs_ends::{List, Mem, Text};
 use wfs_machine::{AskFault, Asked, Present, Request};
 
-fn type_named(alloc: Global, name: &str, property: &str, kind: ValueKind) -> Mem<FeatureType> {
-    let mut properties = Vec::new(alloc);
-    properties.push(Property {
-        name: Text::of(alloc, property)?,
+mod requests;
+mod selection;
+
+fn property(alloc: Global, name: &str, kind: ValueKind) -> Mem<Property> {
+    Ok(Property {
+        name: Text::of(alloc, name)?,
         kind,
         required: false,
         max: 40,
-    })?;
-    Ok(FeatureType {
-        name: Text::of(alloc, name)?,
-        properties: List::of(properties),
     })
 }
+
+fn type_named(alloc: Global, name: &str, properties: &[(&str, ValueKind)]) -> Mem<FeatureType> {
+    let mut all = Vec::new(alloc);
+    for one in properties {
+        all.push(property(alloc, one.0, one.1)?)?;
+    }
+    Ok(FeatureType {
+        name: Text::of(alloc, name)?,
+        properties: List::of(all),
+    })
+}
+
+static MARK: [(&str, ValueKind); 3] = [
+    ("label", ValueKind::Words),
+    ("size", ValueKind::Whole),
+    ("place", ValueKind::Point),
+];
+
+static FIELD: [(&str, ValueKind); 2] = [("name", ValueKind::Words), ("area", ValueKind::Polygon)];
+
+static WAY: [(&str, ValueKind); 1] = [("course", ValueKind::Line)];
 
 // Marks, fields and ways, in two names of one reference system.
 fn schema(alloc: Global) -> Mem<Schema> {
     let mut types = Vec::new(alloc);
-    types.push(type_named(alloc, "Mark", "label", ValueKind::Words)?)?;
-    types.push(type_named(alloc, "Field", "area", ValueKind::Polygon)?)?;
-    types.push(type_named(alloc, "Way", "course", ValueKind::Line)?)?;
+    types.push(type_named(alloc, "Mark", &MARK)?)?;
+    types.push(type_named(alloc, "Field", &FIELD)?)?;
+    types.push(type_named(alloc, "Way", &WAY)?)?;
     let mut srs = Vec::new(alloc);
     srs.push(Text::of(alloc, "urn:ogc:def:crs:EPSG::25832")?)?;
     srs.push(Text::of(alloc, "EPSG:25832")?)?;
@@ -61,20 +83,53 @@ fn add_id(line: &mut String, id: &IdRef) -> Mem<()> {
     Ok(())
 }
 
+fn add_ids(line: &mut String, ids: &[IdRef]) -> Mem<()> {
+    line.push_str(" ids")?;
+    for id in ids {
+        add_id(line, id)?;
+    }
+    Ok(())
+}
+
+fn add_corner(line: &mut String, corner: Pos) -> Mem<()> {
+    let x = corner.x;
+    let y = corner.y;
+    write!(line, " {x} {y}")?;
+    Ok(())
+}
+
+fn add_box(line: &mut String, property: Option<u32>, area: &Box2) -> Mem<()> {
+    add_number(line, " box ", property)?;
+    add_corner(line, area.low)?;
+    add_corner(line, area.high)
+}
+
+fn add_filter(line: &mut String, filter: &Filter) -> Mem<()> {
+    match filter {
+        Filter::Ids(ids) => add_ids(line, ids.items()),
+        Filter::InBox { property, area } => add_box(line, *property, area),
+        Filter::IsNull(property) => add_number(line, " null ", Some(*property)),
+        Filter::Compare { .. } => Ok(line.push_str(" compare")?),
+        Filter::Not(_) => Ok(line.push_str(" not")?),
+        _ => Ok(line.push_str(" other")?),
+    }
+}
+
+fn add_key(line: &mut String, key: &SortKey) -> Mem<()> {
+    add_number(line, " by ", Some(key.property))?;
+    if key.descending {
+        line.push_str("-")?;
+    }
+    Ok(())
+}
+
 fn add_query(line: &mut String, query: &Query) -> Mem<()> {
     add_number(line, "type ", query.kind)?;
-    match &query.filter {
-        None => {}
-        Some(Filter::Ids(ids)) => {
-            line.push_str(" ids")?;
-            for id in ids.items() {
-                add_id(line, id)?;
-            }
-        }
-        Some(_) => line.push_str(" filter")?,
+    if let Some(filter) = &query.filter {
+        add_filter(line, filter)?;
     }
-    if !query.sort.items().is_empty() {
-        line.push_str(" sorted")?;
+    for key in query.sort.items() {
+        add_key(line, key)?;
     }
     Ok(())
 }
@@ -117,7 +172,8 @@ fn fault_line(alloc: Global, fault: &AskFault) -> Mem<String> {
     }
 }
 
-// What a query asks, as a line: the type's number, the ids, the page; or the row and the locator of its refusal.
+// What a query asks, as a line: the type's number, what features are chosen by, the keys that they are sorted by, the page; or the
+// row and the locator of its refusal.
 fn told(alloc: Global, query: &str) -> Mem<String> {
     let schema = schema(alloc)?;
     match read_query(alloc, query, &schema) {
@@ -137,193 +193,6 @@ fn link(alloc: Global, query: &str) -> Mem<String> {
     }
     Ok(line)
 }
-
-// What is asked, behind `service=WFS&request=GetFeature&`.
-static ASKED: [(&str, &str); 32] = [
-    ("typeNames=m:Mark", "type 0 from 0 count all"),
-    ("typeNames=Field", "type 1 from 0 count all"),
-    ("typeNames=:Way", "type 2 from 0 count all"),
-    ("typeNames=x:Mark", "type 0 from 0 count all"),
-    (
-        "typeNames=m%3AMark&resultType=hits",
-        "type 0 from 0 count all hits",
-    ),
-    (
-        "typeNames=Mark&resultType=results",
-        "type 0 from 0 count all",
-    ),
-    ("typeName=Mark", "type 0 from 0 count all"),
-    ("TYPENAME=Mark", "type 0 from 0 count all"),
-    ("typenames=Mark&typename=Mark", "type 0 from 0 count all"),
-    ("typeName=Mark&typeNames=Mark", "type 0 from 0 count all"),
-    ("typeNames=&typeName=Way", "type 2 from 0 count all"),
-    (
-        "resourceId=Mark.2,Mark.9",
-        "type all ids 0.2 0.9 from 0 count all",
-    ),
-    (
-        "RESOURCEID=Mark.2%2CMark.9",
-        "type all ids 0.2 0.9 from 0 count all",
-    ),
-    (
-        "resourceId=Mark.2,,Nope.1,Mark.02,Mark.2",
-        "type all ids 0.2 nobody nobody nobody 0.2 from 0 count all",
-    ),
-    ("resourceId=nobody", "type all ids nobody from 0 count all"),
-    (
-        "resourceId=,",
-        "type all ids nobody nobody from 0 count all",
-    ),
-    (
-        "resourceId=Field.1&typeNames=Mark",
-        "type 0 ids 1.1 from 0 count all",
-    ),
-    (
-        "resourceId=Mark.18446744073709551615",
-        "type all ids 0.18446744073709551615 from 0 count all",
-    ),
-    (
-        "resourceId=Mark.18446744073709551616",
-        "type all ids nobody from 0 count all",
-    ),
-    (
-        "resourceId=m:Mark.1",
-        "type all ids nobody from 0 count all",
-    ),
-    (
-        "typeNames=Mark&count=0&startIndex=0",
-        "type 0 from 0 count 0",
-    ),
-    (
-        "typeNames=Mark&COUNT=4294967295&STARTINDEX=007",
-        "type 0 from 7 count 4294967295",
-    ),
-    ("typeNames=Mark&count=&count=2", "type 0 from 0 count 2"),
-    ("typeNames=Mark&version=2.0.0", "type 0 from 0 count all"),
-    (
-        "typeNames=Mark&VERSION=2.0.2&resolve=none&propertyName=*",
-        "type 0 from 0 count all",
-    ),
-    (
-        "typeNames=Mark&outputFormat=application/gml%2Bxml;%20version%3D3.2",
-        "type 0 from 0 count all",
-    ),
-    (
-        "typeNames=Mark&outputFormat=text/xml;+subtype=gml/3.2.1",
-        "type 0 from 0 count all",
-    ),
-    (
-        "typeNames=Mark&srsName=urn:ogc:def:crs:EPSG::25832",
-        "type 0 from 0 count all",
-    ),
-    (
-        "typeNames=Mark&srsName=EPSG%3a25832&resourceId=Mark.1",
-        "type 0 ids 0.1 from 0 count all",
-    ),
-    (
-        "typeNames=Mark&handle=a&handle=b&foo&=x&foo=1&foo=2",
-        "type 0 from 0 count all",
-    ),
-    (
-        "typeNames=Mark&valueReference=label&lockId=x&expiry=y",
-        "type 0 from 0 count all",
-    ),
-    (
-        "&&typeNames=Mark&bbox=&filter&sortBy=&storedQuery_id=",
-        "type 0 from 0 count all",
-    ),
-];
-
-// What is refused, whole.
-static REFUSED: [(&str, &str); 14] = [
-    ("", "10 service"),
-    ("request=Foo", "10 service"),
-    ("service=&request=GetFeature&typeNames=Mark", "10 service"),
-    ("service=wfs&request=Foo", "11 service"),
-    ("service=WFS%20&request=GetFeature", "11 service"),
-    ("service=WFS", "10 request"),
-    ("service=WFS&version=9", "10 request"),
-    ("service=WFS&request=Foo&version=9", "9 Foo"),
-    ("service=WFS&request=getfeature", "9 getfeature"),
-    ("service=WFS&request=Transaction", "9 Transaction"),
-    (
-        "service=WFS&request=CreateStoredQuery",
-        "9 CreateStoredQuery",
-    ),
-    ("service=WFS&request=GetCapabilities&version=9", "99 stage"),
-    (
-        "service=WFS&request=GetCapabilities&bbox=1&BBOX=2",
-        "8 bbox",
-    ),
-    ("SERVICE=WFS&service=WFS&request=Foo", "8 service"),
-];
-
-// What is refused behind `service=WFS&request=GetFeature&`.
-static WRONG: [(&str, &str); 36] = [
-    ("", "10 typeNames"),
-    ("typeNames=Nope", "11 typeNames"),
-    ("typeNames=mark", "11 typeNames"),
-    ("typeNames=+Mark", "11 typeNames"),
-    ("typeName=Nope", "11 typeNames"),
-    ("typeNames=m:n:Mark", "11 typeNames"),
-    ("typeNames=Mark,Field", "12 typeNames"),
-    ("typeNames=Nope%2C", "12 typeNames"),
-    ("resourceId=", "10 typeNames"),
-    ("version=2.0.1&typeNames=Nope", "11 version"),
-    ("version=1.1.0&count=x", "11 version"),
-    ("typeNames=Nope&count=-1", "11 count"),
-    ("typeNames=Mark&count=4294967296", "11 count"),
-    ("typeNames=Mark&count=%2B1", "11 count"),
-    ("typeNames=Mark&count=+1", "11 count"),
-    ("typeNames=Mark&startIndex=1.0&count=1", "11 startIndex"),
-    ("startIndex=x&count=y", "11 count"),
-    (
-        "typeNames=Mark&resultType=Hits&startIndex=x",
-        "11 startIndex",
-    ),
-    ("typeNames=Mark&resultType=Hits", "11 resultType"),
-    ("typeNames=Nope&outputFormat=text/xml", "11 outputFormat"),
-    (
-        "outputFormat=application/gml+xml;%20version=3.2",
-        "11 outputFormat",
-    ),
-    ("typeNames=Nope&resolve=local", "12 resolve"),
-    ("storedQuery_id=x&typeNames=Nope", "99 stage"),
-    ("storedQuery_id=x&resolve=all", "12 resolve"),
-    (
-        "typeNames=Mark&srsName=EPSG:4326&propertyName=label",
-        "11 srsName",
-    ),
-    ("srsName=EPSG:4326", "11 srsName"),
-    ("typeNames=Mark&filter=x&srsName=EPSG:4326", "11 srsName"),
-    ("typeNames=Mark&filter=x&propertyName=label", "99 stage"),
-    ("sortBy=label", "99 stage"),
-    ("typeNames=Mark&propertyName=label", "12 propertyName"),
-    ("propertyName=label", "12 propertyName"),
-    ("propertyName=*", "10 typeNames"),
-    ("typeName=Mark&typeName=Mark", "8 typeNames"),
-    (
-        "TYPENAMES=Mark&typename=Field&COUNT=1&count=1",
-        "8 typeNames",
-    ),
-    ("typeName=Mark&typeNames=Mark&typeNames=Mark", "8 typeNames"),
-    ("count=1&LOCKID=a&COUNT=1&lockid=a", "8 count"),
-];
-
-// The beginnings of links, behind `http://localhost:8080/wfs?service=WFS&request=GetFeature&`.
-static LINKS: [(&str, &str); 8] = [
-    ("typeNames=Mark&count=2&startIndex=4", "typeNames=Mark"),
-    (
-        "COUNT=2&typeNames=m:Mark&startindex=&count=",
-        "typeNames=m%3AMark",
-    ),
-    ("typeNames=Mark&foo", "typeNames=Mark&foo="),
-    ("typeNames=Mark&&x=a%20b+c&=y", "typeNames=Mark&x=a+b+c&=y"),
-    ("typeNames=Mark&x=%7e*-._~", "typeNames=Mark&x=%7E*-._%7E"),
-    ("typeNames=Mark&x=%C3%9F%26", "typeNames=Mark&x=%C3%9F%26"),
-    ("typeNames=Mark&counts=1", "typeNames=Mark&counts=1"),
-    ("typeNames=Mark&x=%FF%2", "typeNames=Mark&x=%EF%BF%BD%252"),
-];
 
 fn feature_query(alloc: Global, rest: &str) -> Mem<String> {
     let mut query = String::new(alloc);
@@ -347,40 +216,4 @@ fn is_linked(alloc: Global, rest: &str, line: &str) -> Mem<bool> {
     whole.push_str("http://localhost:8080/wfs?service=WFS&request=GetFeature&")?;
     whole.push_str(line)?;
     Ok(link(alloc, query.as_str())?.as_str() == whole.as_str())
-}
-
-#[test]
-fn reads_what_is_asked(rt: HostRuntime) -> Result<(), Fail> {
-    for row in ASKED.iter() {
-        let (query, line) = *row;
-        assert!(rt; is_told(rt.alloc(), query, line)?, "{query}");
-    }
-    Ok(())
-}
-
-#[test]
-fn refuses_by_the_base_of_the_request(rt: HostRuntime) -> Result<(), Fail> {
-    for row in REFUSED.iter() {
-        let (query, line) = *row;
-        assert!(rt; is_told_whole(rt.alloc(), query, line)?, "{query}");
-    }
-    Ok(())
-}
-
-#[test]
-fn names_what_is_wrong_first(rt: HostRuntime) -> Result<(), Fail> {
-    for row in WRONG.iter() {
-        let (query, line) = *row;
-        assert!(rt; is_told(rt.alloc(), query, line)?, "{query}");
-    }
-    Ok(())
-}
-
-#[test]
-fn writes_the_beginning_of_links(rt: HostRuntime) -> Result<(), Fail> {
-    for row in LINKS.iter() {
-        let (query, line) = *row;
-        assert!(rt; is_linked(rt.alloc(), query, line)?, "{query}");
-    }
-    Ok(())
 }

@@ -5,6 +5,8 @@ use std::alloc::Global;
 use std::test::Fail;
 use wfs_ends::{ListClock, Mem, MemSink, MemSource};
 
+mod queries;
+
 const SCHEMA: &str =
     "title = \"Marks\"\naddress = \"http://localhost:8080/wfs\"\nnamespace = \"http://example.org/marks\"\nprefix = \"m\"\nsrs = [\"urn:ogc:def:crs:EPSG::25832\", \"EPSG:25832\"]\n[[type]]\nname = \"Mark\"\nproperty = [ {name=\"label\", kind=\"text\", required=true, max=40}, {name=\"size\", kind=\"integer\"}, {name=\"place\", kind=\"point\"} ]\n[[type]]\nname = \"Field\"\nproperty = [ {name=\"name\", kind=\"text\"}, {name=\"area\", kind=\"polygon\"} ]\n[[type]]\nname = \"Way\"\nproperty = [ {name=\"course\", kind=\"line\"} ]\n";
 

@@ -1,7 +1,7 @@
 use Rattle.std.proofs.Common.{◌≡◌, ◌++◌, map, length, IsUtf8}
 use Rattle.std.specs.List.{slice_split}
-use Rattle.kvp_queries.specs.Request.{is_comma, id_of, ids_in}
-use Rattle.kvp_queries.proofs.features.ids_in.Given as goal
+use Rattle.kvp_queries.specs.Selection.{is_comma, id_of, ids_in}
+use Rattle.kvp_queries.proofs.selecting.ids_in.Given as goal
 
 abbrev pub invariant-loop-first : goal.invariant-loop-first
 invariant-loop-first l = record {
