@@ -1,6 +1,6 @@
 -- The queue has an entry of each lock that has not been ended.
 use Rattle.std.proofs.Common.{◌≡◌, ℕ, ◌+◌, ◌<◌, ◌≤◌, Bool, true, false, cond, ◌&&◌, ◌||◌, List, [], ◌∷◌, ◌++◌, length, get_or, take, refl, sym, ap, subst, ◌∙◌, arith}
-use Rattle.std.specs.Prelude.{◌==◌, zero, suc, not, nat_lt, if◌then◌else◌}
+use Rattle.std.specs.Prelude.{◌==◌, zero, suc, not, nat_lt, if◌then◌else◌, slice_index_or}
 use Rattle.std.specs.List.{AllByRecursion, filter, list_any}
 use Rattle.std.specs.Ordering.{nat_cmp, ordering_then, is_lt}
 use Rattle.std.specs.declared.cmp.Ordering.{Ordering}
@@ -9,7 +9,7 @@ use Rattle.std.proofs.lemmas.Cmp.{ranked}
 use Rattle.lock_table.specs.Lock.{Lock}
 use Rattle.lock_table.specs.Held.{is_live, live, has_number, is_live_number, IsRising}
 use Rattle.lock_table.specs.Kept.{ended}
-use Rattle.lock_table.specs.Queue.{Due, due_at, due_cmp, is_entry_of, is_queued, AreQueued, AreQueuedBut}
+use Rattle.lock_table.specs.Queue.{Due, due_at, due_cmp, has_come, is_entry_of, is_queued, AreQueued, AreQueuedBut}
 use Rattle.lock_table.specs.Steps.{changed_at}
 use Rattle.lock_table.proofs.Rising.{HasNot, above, not_yet, all_weaker, all_changed, all_more}
 use Rattle.lock_table.proofs.Seen.{later_ended}
@@ -28,6 +28,39 @@ due_behind moment top queue lt all =
 pub soonest : (top : Due) (queue : List Due) → AllByRecursion (λ y. is_lt (due_cmp top y) ≡ false) queue → AllByRecursion (λ e. top.0.0 ≤ e.0.0) queue
 soonest top queue all =
     all_weaker (λ y. is_lt (due_cmp top y) ≡ false) (λ e. top.0.0 ≤ e.0.0) queue (λ y h. not_sooner_at y.0.0 top.0.0 (nat_cmp y.0.0 top.0.0) (nat_cmp y.0.1 top.0.1) refl h) all
+
+-- whether an entry has come
+
+or_left : (a b : Bool) → (a || b) ≡ false → a ≡ false
+or_left true b e = absurd (let bad = e in cc)
+or_left false b e = refl
+
+or_right : (a b : Bool) → (a || b) ≡ false → b ≡ false
+or_right true b e = absurd (let bad = e in cc)
+or_right false b e = e
+
+comes_not : (moment : ℕ) (e : Due) → moment < e.0.0 → has_come moment e ≡ false
+comes_not moment e lt = grind (arith, lt)
+
+comes_later : (moment : ℕ) (e : Due) → has_come moment e ≡ false → moment < e.0.0
+comes_later moment e is = grind (arith, is)
+
+none_come : (moment : ℕ) (queue : List Due) → AllByRecursion (λ e. moment < e.0.0) queue → list_any (has_come moment) queue ≡ false
+none_come moment [] all = refl
+none_come moment (e ∷ es) all = rw (comes_not moment e all.0, none_come moment es all.1) refl
+
+pub all_later : (moment : ℕ) (queue : List Due) → list_any (has_come moment) queue ≡ false → AllByRecursion (λ e. moment < e.0.0) queue
+all_later moment [] none = tt
+all_later moment (e ∷ es) none =
+    (comes_later moment e (or_left (has_come moment e) (list_any (has_come moment) es) none), all_later moment es (or_right (has_come moment e) (list_any (has_come moment) es) none))
+
+some_here : (a b : Bool) → a ≡ true → (a || b) ≡ true
+some_here a b e = rw e refl
+
+pub any_come : (moment : ℕ) (top : Due) (queue : List Due) (b : Bool) → has_come moment top ≡ b → top ≡ slice_index_or queue 0 top → 0 < length queue → AllByRecursion (λ y. is_lt (due_cmp top y) ≡ false) queue → b ≡ list_any (has_come moment) queue
+any_come moment top [] b is at some all = absurd (omega (arith, some))
+any_come moment top (e ∷ es) true is at some all = sym (some_here (has_come moment e) (list_any (has_come moment) es) (subst (λ (d : Due). has_come moment d ≡ true) at is))
+any_come moment top (e ∷ es) false is at some all = sym (none_come moment (e ∷ es) (due_behind moment top (e ∷ es) (comes_later moment top is) all))
 
 -- where no entry is due, each lock that has not been ended is live
 
@@ -141,10 +174,6 @@ all_taken_more P (x ∷ xs) (suc i) d lt all here = let one : suc i + 1 ≡ suc 
 not_standing_at : (number : ℕ) (queue : List Due) (l : Lock) (rest b : Bool) → has_number number l ≡ b → ((has_number number l && is_live 0 l) || rest) ≡ false → (has_number number l ≡ false → is_live 0 l ≡ true → is_queued queue l ≡ true) → is_live 0 l ≡ true → is_queued queue l ≡ true
 not_standing_at number queue l rest true has none but stands = absurd (let bad = rw (has, stands) at none in cc)
 not_standing_at number queue l rest false has none but stands = but has stands
-
-or_right : (a b : Bool) → (a || b) ≡ false → b ≡ false
-or_right true b e = absurd (let bad = e in cc)
-or_right false b e = e
 
 pub not_standing : (number : ℕ) (queue : List Due) (locks : List Lock) → is_live_number locks 0 number ≡ false → AreQueuedBut number queue locks → AreQueued queue locks
 not_standing number queue [] none but = tt

@@ -17,6 +17,10 @@ due_at moment number = record { 0 = (moment, number) }
 abbrev pub due_cmp : Due → Due → Ordering
 due_cmp a b = ordering_then (nat_cmp b.0.0 a.0.0) (nat_cmp b.0.1 a.0.1)
 
+-- whether the moment of an entry has come
+abbrev pub has_come : ℕ → Due → Bool
+has_come moment entry = not (nat_lt moment entry.0.0)
+
 -- whether an entry is a lock's, at its deadline or before
 abbrev pub is_entry_of : Lock → Due → Bool
 is_entry_of lock entry = (entry.0.1 == lock.number) && not (nat_lt lock.deadline entry.0.0)

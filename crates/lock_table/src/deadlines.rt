@@ -2,7 +2,7 @@ ghost use Rattle.std.specs.Prelude.{min, ◌≡◌, ◌+◌, ◌<◌, ◌≤◌,
 ghost use Rattle.std.specs.List.{AllByRecursion, list_any};
 ghost use Rattle.std.proofs.Props.{props};
 ghost use Rattle.std.specs.BinaryHeap.{IsHeap, heap_items, heap_len, heap_capacity};
-ghost use Rattle.lock_table.specs.Queue.{Due, due_at, due_cmp};
+ghost use Rattle.lock_table.specs.Queue.{Due, due_at, due_cmp, has_come};
 
 use std::alloc::{AllocError, Global};
 use std::cmp::Reverse;
@@ -50,7 +50,7 @@ impl Deadlines {
 
     // Whether there is an entry whose moment has come.
     pub fn is_due(&self, moment: u64) -> bool
-        ensures { result ≡ false → AllByRecursion (λ e. moment < e.0.0) (heap_items self.now.queue) }
+        ensures { result ≡ list_any (has_come moment) (heap_items self.now.queue) }
     {
         match self.queue.peek() {
             Some(Reverse((deadline, _))) => *deadline <= u128::from(moment),
