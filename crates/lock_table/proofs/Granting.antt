@@ -10,6 +10,7 @@ use Rattle.lock_table.specs.Kept.{is_number, given_to, freed_of, IsHeldBy, AreKe
 use Rattle.lock_table.specs.Steps.{new_lock, granted, changed_at, without, released}
 use Rattle.lock_table.specs.declared.words.Release.TheVariants.{Whole, Touched}
 use Rattle.lock_table.proofs.Keeping.{later_live}
+use Rattle.lock_table.proofs.Listed.{granted_listed}
 use Rattle.lock_table.proofs.Map.{same_is}
 use Rattle.lock_table.proofs.Rising.{IsLiveAs, is_number_of, all_weaker, all_both, all_more, live_one, rising_more}
 use Rattle.lock_table.proofs.Seen.{later_ended, holder_seen, more_seen, number_seen, changed_seen, ended_out}
@@ -77,6 +78,7 @@ module _ (last moment given period : ℕ) (features : List Rid) (holds new : Rid
         (all_both (λ l. IsHeldBy last holds l × (l.number ≤ given)) (IsFreeIn moment features) locks (all_both (IsHeldBy last holds) (λ l. l.number ≤ given) locks kept.held kept.counted) (all_free moment features locks free)))
         (λ _ f. rw (given_all f) (new_at given (is_among f features) (holds f) (kept.issued f)));
     issued = λ f n e. issued_at (is_among f features) (holds f) n (sym (given_all f) ∙ e) (kept.issued f n);
+    listed = granted_listed moment given period features holds new locks given_all kept.listed;
   }
 
 -- the features that the table sees to be free are free among the kept locks

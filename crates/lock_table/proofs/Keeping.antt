@@ -5,10 +5,11 @@ use Rattle.std.specs.List.{AllByRecursion, filter, list_any}
 use Rattle.std.specs.Option.{option_or}
 use Rattle.feature_values.specs.declared.feature.Rid.{Rid}
 use Rattle.lock_table.specs.Lock.{Lock}
-use Rattle.lock_table.specs.Held.{is_live, live, is_same, is_among, lists, first_of, held, holder, has_number, is_live_number, IsRising}
-use Rattle.lock_table.specs.Kept.{is_number, given_to, freed_of, IsHeldBy, AreKept, ended, ended_features, left_by}
+use Rattle.lock_table.specs.Held.{is_live, live, is_same, is_among, lists, first_of, held, holder, has_number, is_live_number, features_of, IsRising}
+use Rattle.lock_table.specs.Kept.{is_number, given_to, freed_of, IsHeldBy, IsFreed, AreListed, AreKept, ended, ended_features, left_by}
 use Rattle.lock_table.specs.Steps.{renewed_lock, changed_at}
 use Rattle.lock_table.proofs.Map.{same_is}
+use Rattle.lock_table.proofs.Listed.{freed_fewer, among_kept, fewer_listed, renewed_listed, ended_listed, left_listed}
 use Rattle.lock_table.proofs.Rising.{HasNot, IsLiveAs, is_number_of, all_weaker, all_both, all_filter, all_changed, all_more, live_one, ended_number, rising_changed, rising_filter, rising_more}
 
 pub later_live : (last moment : ℕ) (l : Lock) → last ≤ moment → is_live moment l ≡ true → is_live last l ≡ true
@@ -23,7 +24,8 @@ module _ (last moment given number : ℕ) (change : Lock → Lock) (holds new : 
     (le : last ≤ moment) (same : (l : Lock) → (change l).number ≡ l.number)
     (others : (l : Lock) → has_number number l ≡ false → (f : Rid) → is_number l.number (new f) ≡ is_number l.number (holds f))
     (this : (l : Lock) → has_number number l ≡ true → is_live moment l ≡ true → IsHeldBy last holds l → IsHeldBy moment new (change l))
-    (fewer : (f : Rid) (n : ℕ) → new f ≡ Some n → holds f ≡ Some n) where
+    (fewer : (f : Rid) (n : ℕ) → new f ≡ Some n → holds f ≡ Some n)
+    (listed : AreListed holds locks → AreListed new (changed_at number change locks)) where
   held_other : (l : Lock) → has_number number l ≡ false → IsHeldBy last holds l → IsHeldBy moment new l
   held_other l e h live f = h (later_live last moment l le live) f ∙ sym (others l e f)
 
@@ -34,12 +36,13 @@ module _ (last moment given number : ℕ) (change : Lock → Lock) (holds new : 
     held = all_changed (λ l. IsHeldBy last holds l × IsLiveAs moment number l) (IsHeldBy moment new) number change locks (λ l e h. this l e (h.1 e) h.0) (λ l e h. held_other l e h.0)
         (all_both (IsHeldBy last holds) (IsLiveAs moment number) locks kept.held (live_one moment number 0 locks kept.rising live));
     issued = λ f n e. kept.issued f n (fewer f n e);
+    listed = listed kept.listed;
   }
 
 pub renewed_kept : (last moment given number : ℕ) (period : Option ℕ) (holds : Rid → Option ℕ) (locks : List Lock) → last ≤ moment → AreKept last given holds locks → is_live_number locks moment number ≡ true
     → AreKept moment given holds (changed_at number (renewed_lock moment period) locks)
 renewed_kept last moment given number period holds locks le kept live =
-    changed_kept last moment given number (renewed_lock moment period) holds holds locks le (λ l. refl) (λ l _ f. refl) (λ l e is h _. h (later_live last moment l le is)) (λ f n e. e) kept live
+    changed_kept last moment given number (renewed_lock moment period) holds holds locks le (λ l. refl) (λ l _ f. refl) (λ l e is h _. h (later_live last moment l le is)) (λ f n e. e) (renewed_listed moment number period holds locks) kept live
 
 -- features that a lock leaves
 
@@ -52,38 +55,17 @@ freed_other number k false o ne = refl
 freed_other number k true None ne = refl
 freed_other number k true (Some n) ne = freed_other_at number k n (number == n) refl ne
 
-fewer_at : (b : Bool) (o : Option ℕ) (n : ℕ) → (if b then None else o) ≡ Some n → o ≡ Some n
-fewer_at true o n e = absurd (let bad = e in cc)
-fewer_at false o n e = e
-
 module _ (number : ℕ) (features : List Rid) (holds new : Rid → Option ℕ) (freed : (f : Rid) → new f ≡ freed_of number features holds f) where
   pub freed_others : (l : Lock) → has_number number l ≡ false → (f : Rid) → is_number l.number (new f) ≡ is_number l.number (holds f)
   freed_others l ne f = rw (freed f) (freed_other number l.number (is_among f features) (holds f) ne)
-
-  pub freed_fewer : (f : Rid) (n : ℕ) → new f ≡ Some n → holds f ≡ Some n
-  freed_fewer f n e = fewer_at _ (holds f) n (sym (freed f) ∙ e)
 
 never_live : (moment : ℕ) (l : Lock) → is_live moment (ended l) ≡ true → ⊥
 never_live moment l e = grind (arith, e)
 
 pub ended_kept : (last moment given number : ℕ) (features : List Rid) (holds new : Rid → Option ℕ) (locks : List Lock) → last ≤ moment → ((f : Rid) → new f ≡ freed_of number features holds f) → AreKept last given holds locks
-    → is_live_number locks moment number ≡ true → AreKept moment given new (changed_at number ended locks)
-ended_kept last moment given number features holds new locks le freed kept live =
-    changed_kept last moment given number ended holds new locks le (λ l. refl) (freed_others number features holds new freed) (λ l _ _ _ is. absurd (never_live moment l is)) (freed_fewer number features holds new freed) kept live
-
-and_no : (a : Bool) → (a && false) ≡ false
-and_no true = refl
-and_no false = refl
-
-among_filter : (q : Rid → Bool) (f x : Rid) (rest kept : List Rid) (b c : Bool) → is_same x f ≡ b → q x ≡ c → is_among f kept ≡ (is_among f rest && q f) → is_among f (cond c (x ∷ kept) kept) ≡ ((b || is_among f rest) && q f)
-among_filter q f x rest kept true true same is h = rw same (sym (subst (λ (y : Rid). q y ≡ true) (same_is x f same) is))
-among_filter q f x rest kept true false same is h = let not_f : q f ≡ false = subst (λ (y : Rid). q y ≡ false) (same_is x f same) is in h ∙ rw not_f (and_no (is_among f rest)) ∙ sym not_f
-among_filter q f x rest kept false true same is h = rw same h
-among_filter q f x rest kept false false same is h = h
-
-pub among_kept : (q : Rid → Bool) (f : Rid) (xs : List Rid) → is_among f (filter q xs) ≡ (is_among f xs && q f)
-among_kept q f [] = refl
-among_kept q f (x ∷ xs) = among_filter q f x xs (filter q xs) (is_same x f) (q x) refl refl (among_kept q f xs)
+    → features ≡ features_of locks number → is_live_number locks moment number ≡ true → AreKept moment given new (changed_at number ended locks)
+ended_kept last moment given number features holds new locks le freed kept all live =
+    changed_kept last moment given number ended holds new locks le (λ l. refl) (freed_others number features holds new freed) (λ l _ _ _ is. absurd (never_live moment l is)) (freed_fewer number features holds new freed) (ended_listed number features holds new locks freed kept.rising all) kept live
 
 -- where a lock held all that it listed, it holds what is left
 left_at : (number n : ℕ) (a b c : Bool) → (number == n) ≡ c → a ≡ c → (a && is_number number (if b && c then None else Some n)) ≡ is_number number (if b && c then None else Some n)
@@ -106,7 +88,7 @@ left_kept last moment given number features holds new locks le freed kept live =
     (λ l e is h _ f.
     let same : l.number ≡ number = is_number_of l.number number e in
     among_kept (λ g. is_number l.number (new g)) f l.features ∙ rw (freed f, same) (left_held number (is_among f l.features) (is_among f features) (holds f) (h (later_live last moment l le is) f ∙ rw same refl)))
-    (freed_fewer number features holds new freed) kept live
+    (freed_fewer number features holds new freed) (left_listed moment number holds new locks (freed_fewer number features holds new freed)) kept live
 
 -- features of a lock that has ended
 
@@ -119,14 +101,16 @@ swept_kept last given i d features holds new locks lt dead freed kept = record {
       (λ l h live f. h.0 live f ∙ sym (freed_others (get_or locks i d).number features holds new freed l (h.1 live) f))
       (all_both (IsHeldBy last holds) (λ l. is_live last l ≡ true → HasNot (get_or locks i d).number l) locks kept.held (ended_number last 0 locks i d kept.rising lt dead));
   issued = λ f n e. kept.issued f n (freed_fewer (get_or locks i d).number features holds new freed f n e);
+  listed = fewer_listed holds new locks (freed_fewer (get_or locks i d).number features holds new freed) kept.listed;
 }
 
-pub filter_kept : (last given : ℕ) (q : Lock → Bool) (holds : Rid → Option ℕ) (locks : List Lock) → AreKept last given holds locks → AreKept last given holds (filter q locks)
-filter_kept last given q holds locks kept = record {
+pub filter_kept : (last given : ℕ) (q : Lock → Bool) (holds : Rid → Option ℕ) (locks : List Lock) → AreListed holds (filter q locks) → AreKept last given holds locks → AreKept last given holds (filter q locks)
+filter_kept last given q holds locks listed kept = record {
   rising = rising_filter 0 q locks kept.rising;
   counted = all_filter (λ l. l.number ≤ given) q locks kept.counted;
   held = all_filter (IsHeldBy last holds) q locks kept.held;
   issued = kept.issued;
+  listed = listed;
 }
 
 same_kept : (last given : ℕ) (holds new : Rid → Option ℕ) (locks : List Lock) → ((f : Rid) → new f ≡ holds f) → AreKept last given holds locks → AreKept last given new locks
@@ -135,6 +119,7 @@ same_kept last given holds new locks same kept = record {
   counted = kept.counted;
   held = all_weaker (IsHeldBy last holds) (IsHeldBy last new) locks (λ l h live f. rw (same f) (h live f)) kept.held;
   issued = λ f n e. kept.issued f n (sym (same f) ∙ e);
+  listed = λ f n e. kept.listed f n (sym (same f) ∙ e);
 }
 
 swept_at : (last given i : ℕ) (d : Lock) (holds new : Rid → Option ℕ) (locks : List Lock) (b : Bool) → i < length locks → is_live last (get_or locks i d) ≡ b
@@ -147,10 +132,11 @@ pub swept_step : (last given i : ℕ) (d : Lock) (holds new : Rid → Option ℕ
 swept_step last given i d holds new locks lt freed kept = swept_at last given i d holds new locks (is_live last (get_or locks i d)) lt refl freed kept
 
 -- a lock that is live no more is ended
-pub dead_kept : (last given number : ℕ) (features : List Rid) (holds new : Rid → Option ℕ) (locks : List Lock) → ((f : Rid) → new f ≡ freed_of number features holds f) → AreKept last given holds locks → AreKept last given new (changed_at number ended locks)
-dead_kept last given number features holds new locks freed kept = record {
+pub dead_kept : (last given number : ℕ) (features : List Rid) (holds new : Rid → Option ℕ) (locks : List Lock) → ((f : Rid) → new f ≡ freed_of number features holds f) → features ≡ features_of locks number → AreKept last given holds locks → AreKept last given new (changed_at number ended locks)
+dead_kept last given number features holds new locks freed all kept = record {
   rising = rising_changed 0 number ended locks (λ l. refl) kept.rising;
   counted = all_changed (λ l. l.number ≤ given) (λ l. l.number ≤ given) number ended locks (λ l _ h. h) (λ l _ h. h) kept.counted;
   held = all_changed (IsHeldBy last holds) (IsHeldBy last new) number ended locks (λ l e h is. absurd (never_live last l is)) (λ l e h live f. h live f ∙ sym (freed_others number features holds new freed l e f)) kept.held;
   issued = λ f n e. kept.issued f n (freed_fewer number features holds new freed f n e);
+  listed = ended_listed number features holds new locks freed kept.rising all kept.listed;
 }

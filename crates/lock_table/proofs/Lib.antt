@@ -4,10 +4,12 @@ pub mod Counted
 pub mod Dashes
 pub mod Granting
 pub mod Keeping
+pub mod Listed
 pub mod Map
 pub mod OneHolder
 pub mod Place
 pub mod Queued
 pub mod Rising
+pub mod Room
 pub mod Seen
 pub mod Turns

@@ -1,4 +1,4 @@
--- The queue has an entry of each lock that has not been ended.
+-- The queue has an entry of each lock that has still to be ended.
 use Rattle.std.proofs.Common.{◌≡◌, ℕ, ◌+◌, ◌<◌, ◌≤◌, Bool, true, false, cond, ◌&&◌, ◌||◌, List, [], ◌∷◌, ◌++◌, length, get_or, take, refl, sym, ap, subst, ◌∙◌, arith}
 use Rattle.std.specs.Prelude.{◌==◌, zero, suc, not, nat_lt, if◌then◌else◌, slice_index_or}
 use Rattle.std.specs.List.{AllByRecursion, filter, list_any}
@@ -9,7 +9,7 @@ use Rattle.std.proofs.lemmas.Cmp.{ranked}
 use Rattle.lock_table.specs.Lock.{Lock}
 use Rattle.lock_table.specs.Held.{is_live, live, has_number, is_live_number, IsRising}
 use Rattle.lock_table.specs.Kept.{ended}
-use Rattle.lock_table.specs.Queue.{Due, due_at, due_cmp, has_come, is_entry_of, is_queued, AreQueued, AreQueuedBut}
+use Rattle.lock_table.specs.Queue.{Due, due_at, due_cmp, has_come, due_count, awaits_end, is_entry_of, is_queued, AreQueued, AreQueuedBut}
 use Rattle.lock_table.specs.Steps.{changed_at}
 use Rattle.lock_table.proofs.Rising.{HasNot, above, not_yet, all_weaker, all_changed, all_more}
 use Rattle.lock_table.proofs.Seen.{later_ended}
@@ -71,7 +71,7 @@ queued_live_at : (moment : ℕ) (e : Due) (l : Lock) (b rest : Bool) → is_entr
 queued_live_at moment e l true rest is lt h later = entry_live moment e l lt is
 queued_live_at moment e l false rest is lt h later = later h
 
-queued_live : (moment : ℕ) (queue : List Due) (l : Lock) → AllByRecursion (λ e. moment < e.0.0) queue → is_queued queue l ≡ true → is_live moment l ≡ true
+pub queued_live : (moment : ℕ) (queue : List Due) (l : Lock) → AllByRecursion (λ e. moment < e.0.0) queue → is_queued queue l ≡ true → is_live moment l ≡ true
 queued_live moment [] l all q = absurd (let bad = q in cc)
 queued_live moment (e ∷ es) l all q = queued_live_at moment e l (is_entry_of l e) (is_queued es l) refl all.0 q (queued_live moment es l all.1)
 
@@ -85,8 +85,8 @@ same_filter p q (l ∷ ls) all = rw (all.0, same_filter p q ls all.1) refl
 
 pub standing_live : (moment : ℕ) (queue : List Due) (locks : List Lock) → AllByRecursion (λ e. moment < e.0.0) queue → AreQueued queue locks → live 0 locks ≡ live moment locks
 standing_live moment queue locks behind queued =
-    sym (same_filter (is_live moment) (is_live 0) locks (all_weaker (λ l. is_live 0 l ≡ true → is_queued queue l ≡ true) (λ l. is_live moment l ≡ is_live 0 l) locks
-    (λ l h. same_liveness_at moment l (is_live 0 l) refl (λ stands. queued_live moment queue l behind (h stands))) queued))
+    sym (same_filter (is_live moment) (is_live 0) locks (all_weaker (λ l. awaits_end l ≡ true → is_queued queue l ≡ true) (λ l. is_live moment l ≡ is_live 0 l) locks
+    (λ l h. same_liveness_at moment l (is_live 0 l) refl (λ stands. queued_live moment queue l behind (h (some_here (is_live 0 l) _ stands)))) queued))
 
 -- an entry comes, or goes
 
@@ -110,7 +110,7 @@ module _ (deadline number : ℕ) (old new : List Due) (entry : (p : Due → Bool
   pub new_queued : (l : Lock) → has_number number l ≡ true → l.deadline ≡ deadline → is_queued new l ≡ true
   new_queued l has is = entry (is_entry_of l) ∙ or_here (is_entry_of l (due_at deadline number)) (is_queued old l) (entry_is l deadline number has is)
 
-  pushed_at : (l : Lock) (b : Bool) → has_number number l ≡ b → (has_number number l ≡ false → is_live 0 l ≡ true → is_queued old l ≡ true) → (has_number number l ≡ true → l.deadline ≡ deadline) → is_live 0 l ≡ true → is_queued new l ≡ true
+  pushed_at : (l : Lock) (b : Bool) → has_number number l ≡ b → (has_number number l ≡ false → awaits_end l ≡ true → is_queued old l ≡ true) → (has_number number l ≡ true → l.deadline ≡ deadline) → awaits_end l ≡ true → is_queued new l ≡ true
   pushed_at l true has but is stands = new_queued l has (is has)
   pushed_at l false has but is stands = more_queued l (but has stands)
 
@@ -120,32 +120,32 @@ module _ (deadline number : ℕ) (old new : List Due) (entry : (p : Due → Bool
 
 pub popped : (deadline number : ℕ) (old new : List Due) (locks : List Lock) → ((p : Due → Bool) → list_any p old ≡ (p (due_at deadline number) || list_any p new)) → AreQueued old locks → AreQueuedBut number new locks
 popped deadline number old new locks entry queued =
-    all_weaker (λ l. is_live 0 l ≡ true → is_queued old l ≡ true) (λ l. has_number number l ≡ false → is_live 0 l ≡ true → is_queued new l ≡ true) locks
+    all_weaker (λ l. awaits_end l ≡ true → is_queued old l ≡ true) (λ l. has_number number l ≡ false → awaits_end l ≡ true → is_queued new l ≡ true) locks
     (λ l h has stands. rw (entry (is_entry_of l), entry_is_not l deadline number has) at (h stands)) queued
 
 -- a lock changes, or comes
 
 pub queued_but : (number : ℕ) (queue : List Due) (locks : List Lock) → AreQueued queue locks → AreQueuedBut number queue locks
-queued_but number queue locks queued = all_weaker (λ l. is_live 0 l ≡ true → is_queued queue l ≡ true) (λ l. has_number number l ≡ false → is_live 0 l ≡ true → is_queued queue l ≡ true) locks (λ l h has. h) queued
+queued_but number queue locks queued = all_weaker (λ l. awaits_end l ≡ true → is_queued queue l ≡ true) (λ l. has_number number l ≡ false → awaits_end l ≡ true → is_queued queue l ≡ true) locks (λ l h has. h) queued
 
 pub changed_but : (number : ℕ) (change : Lock → Lock) (queue : List Due) (locks : List Lock) → ((l : Lock) → (change l).number ≡ l.number) → AreQueuedBut number queue locks → AreQueuedBut number queue (changed_at number change locks)
 changed_but number change queue locks same but =
-    all_changed (λ l. has_number number l ≡ false → is_live 0 l ≡ true → is_queued queue l ≡ true) (λ l. has_number number l ≡ false → is_live 0 l ≡ true → is_queued queue l ≡ true) number change locks
+    all_changed (λ l. has_number number l ≡ false → awaits_end l ≡ true → is_queued queue l ≡ true) (λ l. has_number number l ≡ false → awaits_end l ≡ true → is_queued queue l ≡ true) number change locks
     (λ l e h not_it. absurd (let bad : has_number number (change l) ≡ true = ap (λ (n : ℕ). n == number) (same l) ∙ e in let worse = sym not_it ∙ bad in cc)) (λ l e h. h) but
 
-never_stands : (l : Lock) → is_live 0 (ended l) ≡ true → ⊥
-never_stands l e = grind (arith, e)
+never_awaits : (l : Lock) → awaits_end (ended l) ≡ true → ⊥
+never_awaits l e = let bad = e in cc
 
 pub ended_queued : (number : ℕ) (queue : List Due) (locks : List Lock) → AreQueuedBut number queue locks → AreQueued queue (changed_at number ended locks)
 ended_queued number queue locks but =
-    all_changed (λ l. has_number number l ≡ false → is_live 0 l ≡ true → is_queued queue l ≡ true) (λ l. is_live 0 l ≡ true → is_queued queue l ≡ true) number ended locks (λ l e h stands. absurd (never_stands l stands)) (λ l e h. h e) but
+    all_changed (λ l. has_number number l ≡ false → awaits_end l ≡ true → is_queued queue l ≡ true) (λ l. awaits_end l ≡ true → is_queued queue l ≡ true) number ended locks (λ l e h awaits. absurd (never_awaits l awaits)) (λ l e h. h e) but
 
 itself : (n : ℕ) → (n == n) ≡ true
 itself n = grind arith
 
 pub new_but : (new : Lock) (queue : List Due) (locks : List Lock) → AreQueued queue locks → AreQueuedBut new.number queue (locks ++ new ∷ [])
 new_but new queue locks queued =
-    all_more (λ l. has_number new.number l ≡ false → is_live 0 l ≡ true → is_queued queue l ≡ true) locks new (queued_but new.number queue locks queued) (λ not_it. absurd (let bad = sym not_it ∙ itself new.number in cc))
+    all_more (λ l. has_number new.number l ≡ false → awaits_end l ≡ true → is_queued queue l ≡ true) locks new (queued_but new.number queue locks queued) (λ not_it. absurd (let bad = sym not_it ∙ itself new.number in cc))
 
 -- the deadline at a place is that of the lock with the number there
 
@@ -170,12 +170,22 @@ all_taken_more P [] i d lt all here = absurd (omega (arith, lt))
 all_taken_more P (x ∷ xs) zero d lt all here = (here, tt)
 all_taken_more P (x ∷ xs) (suc i) d lt all here = let one : suc i + 1 ≡ suc (i + 1) = omega arith in rw one (all.0, all_taken_more P xs i d (omega (arith, lt)) all.1 here)
 
--- a lock that has been ended needs no entry
-not_standing_at : (number : ℕ) (queue : List Due) (l : Lock) (rest b : Bool) → has_number number l ≡ b → ((has_number number l && is_live 0 l) || rest) ≡ false → (has_number number l ≡ false → is_live 0 l ≡ true → is_queued queue l ≡ true) → is_live 0 l ≡ true → is_queued queue l ≡ true
-not_standing_at number queue l rest true has none but stands = absurd (let bad = rw (has, stands) at none in cc)
-not_standing_at number queue l rest false has none but stands = but has stands
+-- how many entries have come
 
-pub not_standing : (number : ℕ) (queue : List Due) (locks : List Lock) → is_live_number locks 0 number ≡ false → AreQueuedBut number queue locks → AreQueued queue locks
-not_standing number queue [] none but = tt
-not_standing number queue (l ∷ ls) none but =
-    (not_standing_at number queue l (is_live_number ls 0 number) (has_number number l) refl none but.0, not_standing number queue ls (or_right (has_number number l && is_live 0 l) (is_live_number ls 0 number) none) but.1)
+come_not : (moment deadline number : ℕ) (l : Lock) → is_live moment l ≡ true → deadline ≡ l.deadline → has_come moment (due_at deadline number) ≡ false
+come_not moment deadline number l live is = grind (arith, live, is)
+
+pub later_count : (moment deadline number before after : ℕ) (l : Lock) → is_live moment l ≡ true → deadline ≡ l.deadline → after ≡ cond (has_come moment (due_at deadline number)) 1 0 + before → after ≡ before
+later_count moment deadline number before after l live is e = let same = rw (come_not moment deadline number l live is) at e in omega (arith, same)
+
+top_come : (moment deadline number : ℕ) (queue : List Due) (b : Bool) → has_come moment (due_at deadline number) ≡ b → AllByRecursion (λ e. deadline ≤ e.0.0) queue → (has_come moment (due_at deadline number) || list_any (has_come moment) queue) ≡ true → b ≡ true
+top_come moment deadline number queue true is behind e = refl
+top_come moment deadline number queue false is behind e =
+    let lt : moment < deadline = comes_later moment (due_at deadline number) is in
+    let none = none_come moment queue (all_weaker (λ d. deadline ≤ d.0.0) (λ d. moment < d.0.0) queue (λ d le. omega (arith, lt, le)) behind) in
+    absurd (let bad = rw (is, none) at e in cc)
+
+-- where some entry has come, the soonest one has
+pub less_due : (moment deadline number before after : ℕ) (queue : List Due) → AllByRecursion (λ e. deadline ≤ e.0.0) queue → (has_come moment (due_at deadline number) || list_any (has_come moment) queue) ≡ true
+    → after + cond (has_come moment (due_at deadline number)) 1 0 ≡ before → after + 1 ≡ before
+less_due moment deadline number before after queue behind some e = rw (top_come moment deadline number queue (has_come moment (due_at deadline number)) refl behind some) at e

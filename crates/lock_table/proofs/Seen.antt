@@ -101,7 +101,7 @@ pub changed_seen : (last moment number : ℕ) (change : Lock → Lock) (locks : 
 changed_seen last moment number change [] le all = refl
 changed_seen last moment number change (l ∷ ls) le all = changed_seen_at moment number change l (live last ls) ls (is_live last l) (λ e. ((λ has. let bad = sym e ∙ all.0 has in cc), later_ended last moment l le e)) (changed_seen last moment number change ls le all.1)
 
-never : (moment : ℕ) (l : Lock) → is_live moment (ended l) ≡ false
+pub never : (moment : ℕ) (l : Lock) → is_live moment (ended l) ≡ false
 never moment l = grind arith
 
 ended_at : (moment number : ℕ) (l : Lock) (left rest : List Lock) (b : Bool) → has_number number l ≡ b → live moment left ≡ live moment rest → live moment (cond (not b) (l ∷ left) left) ≡ live moment ((if b then ended l else l) ∷ rest)

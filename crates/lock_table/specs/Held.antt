@@ -1,7 +1,7 @@
 -- Who holds what at a moment. A moment is in seconds since 1970.
 use Rattle.std.specs.Prelude.{◌≡◌, ℕ, ◌<◌, ◌≤◌, ⊤, Bool, true, ◌&&◌, ◌||◌, ◌==◌, if◌then◌else◌, nat_lt, List, [], ◌∷◌, Option, Some, None, is_some, unwrap_or, length, All}
 use Rattle.std.specs.Option.{option_or}
-use Rattle.std.specs.List.{filter, list_any, AllByRecursion}
+use Rattle.std.specs.List.{filter, list_any, sum_by, AllByRecursion}
 use Rattle.feature_values.specs.declared.feature.Rid.{Rid}
 use Rattle.lock_table.specs.declared.id.LockId.{LockId}
 use Rattle.lock_table.specs.declared.words.LockStatus.{LockStatus}
@@ -67,6 +67,10 @@ numbered number lock = if has_number number lock then Some lock.features else No
 -- the features of the lock with this number
 abbrev pub features_of : List Lock → ℕ → List Rid
 features_of locks number = unwrap_or (first_of (numbered number) locks) []
+
+-- how many features locks list, each as often as it is listed
+abbrev pub feature_count : List Lock → ℕ
+feature_count locks = sum_by (λ lock. length lock.features) locks
 
 -- at most one lock lists a feature
 abbrev pub HaveOneHolder : List Lock → Type 0

@@ -25,3 +25,7 @@ pub record Locks : Type 0 where
   pub spare : ℕ
   -- how many locks have a place in memory, with those that have ended
   pub kept : ℕ
+  -- how many features these locks list, each as often as it is listed
+  pub listed : ℕ
+  -- how many features have an entry in the map by feature
+  pub mapped : ℕ

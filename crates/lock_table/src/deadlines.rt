@@ -1,8 +1,8 @@
-ghost use Rattle.std.specs.Prelude.{min, ◌≡◌, ◌+◌, ◌<◌, ◌≤◌, ◌||◌, false, [], Bool, nat_lt, OnOk, IfSome, IfNone};
-ghost use Rattle.std.specs.List.{AllByRecursion, list_any};
+ghost use Rattle.std.specs.Prelude.{min, ◌≡◌, ◌+◌, ◌<◌, ◌≤◌, ◌||◌, false, [], Bool, cond, nat_lt, OnOk, OnSome, IfSome, IfNone};
+ghost use Rattle.std.specs.List.{list_any, count_by};
 ghost use Rattle.std.proofs.Props.{props};
 ghost use Rattle.std.specs.BinaryHeap.{IsHeap, heap_items, heap_len, heap_capacity};
-ghost use Rattle.lock_table.specs.Queue.{Due, due_at, due_cmp, has_come};
+ghost use Rattle.lock_table.specs.Queue.{Due, due_at, due_cmp, has_come, due_count};
 
 use std::alloc::{AllocError, Global};
 use std::cmp::Reverse;
@@ -36,12 +36,6 @@ impl Deadlines {
         self.queue.reserve(entries)
     }
 
-    pub fn len(&self) -> usize
-        ensures { result ≡ heap_len self.now.queue }
-    {
-        self.queue.len()
-    }
-
     pub fn has_room(&self) -> bool
         ensures { result ≡ nat_lt (heap_len self.now.queue) (heap_capacity self.now.queue) }
     {
@@ -62,6 +56,7 @@ impl Deadlines {
     pub fn push(&mut self, deadline: u128, number: u64)
         requires { heap_len self.old.queue < heap_capacity self.old.queue }
         ensures entry { (p : Due → Bool) → list_any p (heap_items self.new.queue) ≡ (p (due_at deadline number) || list_any p (heap_items self.old.queue)) }
+        ensures count { (p : Due → Bool) → count_by p (heap_items self.new.queue) ≡ cond (p (due_at deadline number)) 1 0 + count_by p (heap_items self.old.queue) }
         ensures len { heap_len self.new.queue ≡ heap_len self.old.queue + 1 }
         ensures kept { heap_capacity self.old.queue ≤ heap_capacity self.new.queue }
     {
@@ -71,14 +66,18 @@ impl Deadlines {
         }
     }
 
-    // Takes the soonest entry, and tells its number.
-    pub fn pop(&mut self) -> Option<u64>
-        ensures entry { IfSome result (λ n. (d : _) × ((p : Due → Bool) → list_any p (heap_items self.old.queue) ≡ (p (due_at d n) || list_any p (heap_items self.new.queue))) × AllByRecursion (λ e. d ≤ e.0.0) (heap_items self.new.queue)) }
-        ensures none { IfNone result (heap_len self.old.queue ≡ 0) }
+    // Takes the soonest entry, where its moment has come, and tells its number.
+    pub fn pop_due(&mut self, moment: u64) -> Option<u64>
+        ensures entry { IfSome result (λ n. (d : _) × ((p : Due → Bool) → list_any p (heap_items self.old.queue) ≡ (p (due_at d n) || list_any p (heap_items self.new.queue)))) }
+        ensures count { OnSome result (due_count moment (heap_items self.new.queue) + 1 ≡ due_count moment (heap_items self.old.queue)) }
+        ensures room { OnSome result (heap_len self.new.queue < heap_capacity self.new.queue) }
+        ensures none { IfNone result (list_any (has_come moment) (heap_items self.old.queue) ≡ false) }
         ensures same { IfNone result (heap_items self.new.queue ≡ heap_items self.old.queue) }
-        ensures len { heap_len self.new.queue ≤ heap_len self.old.queue }
         ensures capacity { heap_capacity self.new.queue ≡ heap_capacity self.old.queue }
     {
+        if !self.is_due(moment) {
+            return None;
+        }
         match self.queue.pop() {
             Some(Reverse((_, number))) => Some(number),
             None => None,

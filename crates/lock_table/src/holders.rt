@@ -1,6 +1,7 @@
 ghost use Rattle.std.specs.Prelude.{◌≡◌, ◌+◌, ◌≤◌, None, OnOk, length, [], ◌∷◌};
-ghost use Rattle.std.specs.HashMap.{spare};
-ghost use Rattle.lock_table.specs.Kept.{number_at, is_number, given_to, freed_of};
+ghost use Rattle.std.specs.List.{IsDistinct-prop};
+ghost use Rattle.std.specs.HashMap.{spare, hash_map_len, keys, IsUnique};
+ghost use Rattle.lock_table.specs.Kept.{pair_eq, number_at, is_number, given_to, freed_of};
 
 use feature_values::Rid;
 use std::alloc::{AllocError, Global};
@@ -10,11 +11,13 @@ use std::collections::HashMap;
 #[derive(Drop)]
 pub struct Holders {
     numbers: HashMap<(u32, u64), u64>,
+    ghost unique: { IsUnique pair_eq numbers } by { IsDistinct-prop pair_eq (keys numbers) },
 }
 
 impl Holders {
     pub fn new(alloc: Global) -> Holders
-        ensures { (f : _) → number_at result.numbers f ≡ None }
+        ensures none { (f : _) → number_at result.numbers f ≡ None }
+        ensures len { hash_map_len result.numbers ≡ 0 }
     {
         Holders {
             numbers: HashMap::new(alloc),
@@ -40,6 +43,7 @@ impl Holders {
     // Makes room for more features.
     pub fn reserve(&mut self, more: usize) -> Result<(), AllocError>
         ensures same { (f : _) → number_at self.new.numbers f ≡ number_at self.old.numbers f }
+        ensures len { hash_map_len self.new.numbers ≡ hash_map_len self.old.numbers }
         ensures room { OnOk result (more ≤ spare self.new.numbers) }
         ensures kept { spare self.old.numbers ≤ spare self.new.numbers }
     {
@@ -48,7 +52,8 @@ impl Holders {
 
     // Gives back memory, where much of it is not needed.
     pub fn shrink(&mut self)
-        ensures { (f : _) → number_at self.new.numbers f ≡ number_at self.old.numbers f }
+        ensures same { (f : _) → number_at self.new.numbers f ≡ number_at self.old.numbers f }
+        ensures len { hash_map_len self.new.numbers ≡ hash_map_len self.old.numbers }
     {
         if self.numbers.capacity() / 4 > self.numbers.len() {
             self.numbers.shrink_to_fit();
@@ -78,6 +83,7 @@ impl Holders {
 
     fn take(&mut self, feature: &Rid, number: u64)
         ensures freed { (f : _) → number_at self.new.numbers f ≡ freed_of number (feature.now ∷ []) (number_at self.old.numbers) f }
+        ensures len { hash_map_len self.new.numbers ≤ hash_map_len self.old.numbers }
         ensures room { spare self.old.numbers ≤ spare self.new.numbers }
     {
         if self.is_held_by(feature, number) {
@@ -88,6 +94,7 @@ impl Holders {
     // Frees those of these features that a lock holds.
     pub fn free(&mut self, features: &[Rid], number: u64)
         ensures freed { (f : _) → number_at self.new.numbers f ≡ freed_of number features.now (number_at self.old.numbers) f }
+        ensures len { hash_map_len self.new.numbers ≤ hash_map_len self.old.numbers }
         ensures room { spare self.old.numbers ≤ spare self.new.numbers }
     {
         for feature in features {

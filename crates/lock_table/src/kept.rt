@@ -2,6 +2,7 @@ ghost use Rattle.std.specs.Prelude.{◌≡◌, ◌+◌, cond};
 ghost use Rattle.std.specs.List.{filter};
 ghost use Rattle.lock_table.specs.Held.{is_live};
 ghost use Rattle.lock_table.specs.Kept.{is_number, number_at, ended, left_by};
+ghost use Rattle.lock_table.specs.Queue.{awaits_end};
 ghost use Rattle.lock_table.specs.Steps.{renewed_lock};
 
 use crate::holders::Holders;
@@ -73,6 +74,13 @@ impl KeptLock {
         ensures { result ≡ is_live moment self.now }
     {
         u128::from(moment) < self.deadline
+    }
+
+    // Whether the lock has still to be ended: it may be live yet, or lists features.
+    pub fn awaits_end(&self) -> bool
+        ensures { result ≡ awaits_end self.now }
+    {
+        self.is_live(0) || !self.features.is_empty()
     }
 
     // 1 where the lock is live.

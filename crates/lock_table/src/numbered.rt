@@ -1,4 +1,4 @@
-ghost use Rattle.std.specs.Prelude.{◌≡◌, ◌+◌, ◌<◌, ◌≤◌, cond, MatchOption, length, false, HoldsAt, ◌++◌, [], ◌∷◌};
+ghost use Rattle.std.specs.Prelude.{◌≡◌, ◌+◌, ◌<◌, ◌≤◌, cond, MatchOption, length, true, false, HoldsAt, ◌++◌, [], ◌∷◌};
 ghost use Rattle.std.specs.Vec.{vec_len, vec_capacity};
 ghost use Rattle.std.specs.List.{AllByRecursion};
 ghost use Rattle.lock_table.specs.Kept.{number_at, holder_by, ended, left_by};
@@ -39,6 +39,19 @@ pub fn left_standing(locks: &[KeptLock], number: u64, before: u64) -> u64
         before
     } else {
         before - 1
+    }
+}
+
+// How many locks have not been ended, where so many had not before the lock with this number is.
+pub fn standing_without(locks: &[KeptLock], number: u64, before: u64) -> u64
+    requires rising { IsRising 0 locks.now }
+    requires some { is_live_number locks.now 0 number ≡ true → 1 ≤ before }
+    ensures { result + cond (is_live_number locks.now 0 number) 1 0 ≡ before }
+{
+    if is_live_number(locks, 0, number) {
+        before - 1
+    } else {
+        before
     }
 }
 

@@ -1,8 +1,9 @@
 ghost use Rattle.std.specs.Prelude.{◌≡◌, ◌≤◌, ℕ, length};
-ghost use Rattle.std.specs.HashMap.{spare};
+ghost use Rattle.std.specs.HashMap.{spare, hash_map_len};
+ghost use Rattle.std.specs.List.{AllByRecursion};
 ghost use Rattle.std.specs.Vec.{vec_len, vec_capacity};
-ghost use Rattle.lock_table.specs.Held.{live};
-ghost use Rattle.lock_table.specs.Kept.{number_at, freed_of, ended_features, AreKept};
+ghost use Rattle.lock_table.specs.Held.{live, feature_count};
+ghost use Rattle.lock_table.specs.Kept.{number_at, freed_of, ended_features, IsFreed, AreKept};
 
 use crate::holders::Holders;
 use crate::kept::KeptLock;
@@ -10,6 +11,7 @@ use crate::kept::KeptLock;
 // Frees what a lock lists, where it has ended.
 fn free_if_ended(holders: &mut Holders, lock: &KeptLock, last: u64)
     ensures freed { (f : _) → number_at holders.new.numbers f ≡ freed_of lock.now.number (ended_features last lock.now) (number_at holders.old.numbers) f }
+    ensures mapped { hash_map_len holders.new.numbers ≤ hash_map_len holders.old.numbers }
     ensures room { spare holders.old.numbers ≤ spare holders.new.numbers }
 {
     if !lock.is_live(last) {
@@ -19,6 +21,8 @@ fn free_if_ended(holders: &mut Holders, lock: &KeptLock, last: u64)
 
 fn free_ended(holders: &mut Holders, locks: &[KeptLock], last: u64)
     ensures kept { (given : ℕ) → AreKept last given (number_at holders.old.numbers) locks.now → AreKept last given (number_at holders.new.numbers) locks.now }
+    ensures freed { AllByRecursion (IsFreed last (number_at holders.new.numbers)) locks.now }
+    ensures mapped { hash_map_len holders.new.numbers ≤ hash_map_len holders.old.numbers }
     ensures room { spare holders.old.numbers ≤ spare holders.new.numbers }
 {
     for lock in locks {
@@ -30,6 +34,8 @@ fn free_ended(holders: &mut Holders, locks: &[KeptLock], last: u64)
 pub fn sweep(holders: &mut Holders, locks: &mut Vec<KeptLock>, last: u64)
     ensures locks { locks.new.items ≡ live last locks.old.items }
     ensures kept { (given : ℕ) → AreKept last given (number_at holders.old.numbers) locks.old.items → AreKept last given (number_at holders.new.numbers) locks.new.items }
+    ensures listed { feature_count locks.new.items ≤ feature_count locks.old.items }
+    ensures mapped { hash_map_len holders.new.numbers ≤ hash_map_len holders.old.numbers }
     ensures room { spare holders.old.numbers ≤ spare holders.new.numbers }
     ensures len { vec_len locks.new ≤ vec_len locks.old }
     ensures capacity { vec_capacity locks.new ≡ vec_capacity locks.old }

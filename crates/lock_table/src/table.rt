@@ -2,7 +2,7 @@ ghost use Rattle.std.specs.Prelude.{◌≡◌, ◌+◌, ◌*◌, ◌<◌, ◌≤
 ghost use Rattle.std.specs.HashMap.{spare};
 ghost use Rattle.lock_table.specs.declared.words.LockFault.TheVariants.{Full, OutOfMemory};
 ghost use Rattle.lock_table.specs.declared.words.Release.TheVariants.{Whole, Touched};
-ghost use Rattle.lock_table.specs.Held.{live, holder, first_held, is_live_number, status, features_of, HaveOneHolder, AreNumbered};
+ghost use Rattle.lock_table.specs.Held.{live, holder, first_held, is_live_number, status, features_of, feature_count, HaveOneHolder, AreNumbered};
 ghost use Rattle.lock_table.specs.Kept.{number_at, AreKept};
 ghost use Rattle.lock_table.specs.Steps.{granted, renewed, released};
 
@@ -20,11 +20,12 @@ use wfs_ends::List;
 /// Who holds what in one opening of the service (OGC 09-025r2, 12). A moment is in seconds since 1970. The last
 /// moment given is the greatest that `grant`, `renew` or `release` got, and no call may get a lesser one. Contracts
 /// see the locks that are live at this moment, the opening, how many locks were granted, how many features the next
-/// lock may have, for which `reserve` has made room, and how many locks have a place in memory, with those that have
-/// ended. No two live locks list one feature.
+/// lock may have, for which `reserve` has made room, how many locks have a place in memory, with those that have
+/// ended, how many features these list, and how many features have an entry in the map by feature. After `grant`,
+/// `renew` and `release` the latter two are at most what the live locks list. No two live locks list one feature.
 #[derive(Drop)]
 pub struct LockTable {
-    // by rising numbers; those that have ended stay until `reserve` takes them out
+    // by rising numbers; those that have ended stay, with no features, until `reserve` takes them out
     locks: Vec<KeptLock>,
     holders: Holders,
     deadlines: Deadlines,
@@ -38,17 +39,17 @@ pub struct LockTable {
 
 impl Model for LockTable {
     ghost use Rattle.std.specs.Vec.{vec_len, vec_capacity};
-    ghost use Rattle.std.specs.HashMap.{spare as room};
+    ghost use Rattle.std.specs.HashMap.{spare as room, hash_map_len};
     ghost use Rattle.std.specs.Prelude.{◌≡◌, length};
     ghost use Rattle.std.specs.BinaryHeap.{heap_items, heap_capacity};
     ghost use Rattle.lock_table.specs.Queue.{AreQueued};
     ghost use Rattle.lock_table.specs.Lock.{Locks};
-    ghost use Rattle.lock_table.specs.Held.{live};
+    ghost use Rattle.lock_table.specs.Held.{live, feature_count};
     ghost use Rattle.lock_table.specs.Kept.{number_at, AreKept, HasRoom};
 
     ghost Value = { Locks };
 
-    ghost view = { λ t. record { locks = live t.last t.locks.items; opening = t.opening; given = t.given; last = t.last; spare = t.spare; kept = vec_len t.locks } };
+    ghost view = { λ t. record { locks = live t.last t.locks.items; opening = t.opening; given = t.given; last = t.last; spare = t.spare; kept = vec_len t.locks; listed = feature_count t.locks.items; mapped = hash_map_len t.holders.numbers } };
 
     ghost invariant = { λ t. AreKept t.last t.given (number_at t.holders.numbers) t.locks.items × HasRoom t.spare (room t.holders.numbers) (vec_len t.locks) (vec_capacity t.locks) (heap_capacity t.deadlines.queue) × AreQueued (heap_items t.deadlines.queue) t.locks.items × (t.standing ≡ length (live 0 t.locks.items)) };
 }
@@ -62,6 +63,8 @@ impl LockTable {
         ensures last { result.last ≡ 0 }
         ensures spare { result.spare ≡ 0 }
         ensures kept { result.kept ≡ 0 }
+        ensures listed { result.listed ≡ 0 }
+        ensures mapped { result.mapped ≡ 0 }
     {
         LockTable {
             locks: Vec::new(alloc),
@@ -154,9 +157,11 @@ impl LockTable {
         ensures full { limit ≤ length (live moment self.old.locks) → result ≡ Err (Full (length (live moment self.old.locks))) }
         ensures free { length (live moment self.old.locks) < limit → IfErr result (λ fault. fault ≡ OutOfMemory) }
         ensures room { OnOk result (features ≤ self.new.spare) }
-        ensures same { self.new ≡ record self.old { spare = self.new.spare; kept = self.new.kept } }
+        ensures same { self.new ≡ record self.old { spare = self.new.spare; kept = self.new.kept; listed = self.new.listed; mapped = self.new.mapped } }
         ensures kept { self.old.spare ≤ self.new.spare }
         ensures few { self.new.kept ≤ 2 * length self.new.locks }
+        ensures listed { self.new.listed ≤ self.old.listed }
+        ensures mapped { self.new.mapped ≤ self.old.mapped }
     {
         self.clear_out();
         if self.spare == 0 {
@@ -172,8 +177,10 @@ impl LockTable {
 
     // Takes out the locks that have ended, where they are many.
     fn clear_out(&mut self)
-        ensures same { self.new ≡ record self.old { kept = self.new.kept } }
+        ensures same { self.new ≡ record self.old { kept = self.new.kept; listed = self.new.listed; mapped = self.new.mapped } }
         ensures few { self.new.kept ≤ 2 * length self.new.locks }
+        ensures listed { self.new.listed ≤ self.old.listed }
+        ensures mapped { self.new.mapped ≤ self.old.mapped }
     {
         if self.is_stale() {
             self.sweep();
@@ -182,7 +189,9 @@ impl LockTable {
 
     // Takes out the locks that have ended.
     fn sweep(&mut self)
-        ensures { self.new ≡ record self.old { kept = length self.old.locks } }
+        ensures same { self.new ≡ record self.old { kept = length self.old.locks; listed = self.new.listed; mapped = self.new.mapped } }
+        ensures listed { self.new.listed ≤ self.old.listed }
+        ensures mapped { self.new.mapped ≤ self.old.mapped }
     {
         swept::sweep(&mut self.holders, &mut self.locks, self.last);
         self.standing = self.locks.as_slice().len() as u64;
@@ -251,6 +260,8 @@ impl LockTable {
         ensures last { self.new.last ≡ moment }
         ensures spare { self.new.spare ≡ 0 }
         ensures kept { self.new.kept ≡ self.old.kept + 1 }
+        ensures listed { self.new.listed ≡ feature_count self.new.locks }
+        ensures mapped { self.new.mapped ≤ feature_count self.new.locks }
     {
         self.add_lock(features, moment, period);
         self.expire();
@@ -263,7 +274,7 @@ impl LockTable {
         requires free { All (λ feature. holder self.old.locks moment feature ≡ None) features }
         requires room { length features ≤ self.old.spare }
         requires numbers { self.old.given < 18_446_744_073_709_551_615 }
-        ensures { self.new ≡ record self.old { locks = granted moment self.old.given features period self.old.locks; given = self.old.given + 1; last = moment; spare = 0; kept = self.old.kept + 1 } }
+        ensures { self.new ≡ record self.old { locks = granted moment self.old.given features period self.old.locks; given = self.old.given + 1; last = moment; spare = 0; kept = self.old.kept + 1; listed = self.new.listed; mapped = self.new.mapped } }
     {
         let number = self.given + 1;
         self.holders.give(features.items(), number);
@@ -287,6 +298,8 @@ impl LockTable {
         ensures last { self.new.last ≡ moment }
         ensures spare { self.new.spare ≡ self.old.spare }
         ensures kept { self.new.kept ≡ self.old.kept }
+        ensures listed { self.new.listed ≡ feature_count self.new.locks }
+        ensures mapped { self.new.mapped ≤ feature_count self.new.locks }
     {
         self.renew_lock(number, moment, period);
         self.expire();
@@ -295,7 +308,7 @@ impl LockTable {
     fn renew_lock(&mut self, number: u64, moment: u64, period: Option<u32>)
         requires moment { self.old.last ≤ moment }
         requires live { IsTrue (is_live_number self.old.locks moment number) }
-        ensures { self.new ≡ record self.old { locks = renewed moment number period self.old.locks; last = moment } }
+        ensures { self.new ≡ record self.old { locks = renewed moment number period self.old.locks; last = moment; listed = self.new.listed; mapped = self.new.mapped } }
     {
         numbered::renew(&mut self.locks, number, moment, period);
         noted::note(&mut self.deadlines, self.locks.as_slice(), number);
@@ -314,6 +327,8 @@ impl LockTable {
         ensures last { self.new.last ≡ moment }
         ensures spare { self.new.spare ≡ self.old.spare }
         ensures kept { self.new.kept ≡ self.old.kept }
+        ensures listed { self.new.listed ≡ feature_count self.new.locks }
+        ensures mapped { self.new.mapped ≤ feature_count self.new.locks }
     {
         match how {
             Release::Whole => self.release_whole(number, touched.items(), moment),
@@ -326,7 +341,7 @@ impl LockTable {
     fn release_whole(&mut self, number: u64, touched: &[Rid], moment: u64)
         requires moment { self.old.last ≤ moment }
         requires live { IsTrue (is_live_number self.old.locks moment number) }
-        ensures { self.new ≡ record self.old { locks = released moment number touched.now Whole self.old.locks; last = moment } }
+        ensures { self.new ≡ record self.old { locks = released moment number touched.now Whole self.old.locks; last = moment; listed = self.new.listed; mapped = self.new.mapped } }
     {
         let _ = touched;
         let features = numbered::features_of(self.locks.as_slice(), number);
@@ -339,7 +354,7 @@ impl LockTable {
     fn release_touched(&mut self, number: u64, touched: &[Rid], moment: u64)
         requires moment { self.old.last ≤ moment }
         requires live { IsTrue (is_live_number self.old.locks moment number) }
-        ensures { self.new ≡ record self.old { locks = released moment number touched.now Touched self.old.locks; last = moment } }
+        ensures { self.new ≡ record self.old { locks = released moment number touched.now Touched self.old.locks; last = moment; listed = self.new.listed; mapped = self.new.mapped } }
     {
         self.holders.free(touched, number);
         numbered::leave(&mut self.locks, number, moment, &self.holders);
@@ -348,32 +363,26 @@ impl LockTable {
         self.last = moment;
     }
 
-    // Ends the locks whose deadline has come, and gives back the memory of what they held.
+    // Ends the locks whose deadline has come, and gives back the memory of what they held. An entry of a lock that has
+    // been renewed since gives way to one at its deadline.
     fn expire(&mut self)
-        ensures { self.new ≡ self.old }
+        ensures same { self.new ≡ record self.old { listed = self.new.listed; mapped = self.new.mapped } }
+        ensures listed { self.new.listed ≡ feature_count self.new.locks }
+        ensures mapped { self.new.mapped ≤ feature_count self.new.locks }
     {
-        for _ in 0..self.deadlines.len() {
-            if !self.deadlines.is_due(self.last) {
-                return;
+        while let Some(number) = self.deadlines.pop_due(self.last) {
+            if numbered::is_live_number(self.locks.as_slice(), self.last, number) {
+                noted::note_one(&mut self.deadlines, self.locks.as_slice(), number);
+            } else {
+                let features = numbered::features_of(self.locks.as_slice(), number);
+                self.holders.free(features, number);
+                self.standing = numbered::standing_without(
+                    self.locks.as_slice(),
+                    number,
+                    self.standing,
+                );
+                numbered::end(&mut self.locks, number);
             }
-            self.expire_one();
-        }
-    }
-
-    // Looks at the lock of the soonest entry.
-    fn expire_one(&mut self)
-        ensures { self.new ≡ self.old }
-    {
-        let Some(number) = self.deadlines.pop() else {
-            return;
-        };
-        if numbered::is_live_number(self.locks.as_slice(), self.last, number) {
-            noted::note(&mut self.deadlines, self.locks.as_slice(), number);
-        } else if numbered::is_live_number(self.locks.as_slice(), 0, number) {
-            let features = numbered::features_of(self.locks.as_slice(), number);
-            self.holders.free(features, number);
-            numbered::end(&mut self.locks, number);
-            self.standing = numbered::left_standing(self.locks.as_slice(), number, self.standing);
         }
     }
 }

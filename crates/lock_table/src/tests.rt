@@ -165,6 +165,20 @@ fn a_lock_is_live_below_its_deadline(rt: HostRuntime) -> Result<(), Fail> {
 }
 
 #[test]
+fn a_lock_for_no_time_holds_nothing(rt: HostRuntime) -> Result<(), Fail> {
+    let mut table = LockTable::new(rt.alloc(), 7);
+    let one = marks(rt.alloc(), &[1])?;
+    assert_eq!(rt; lock(&mut table, one, 0, 0).ok(), Some(Some(1)));
+    assert_eq!(rt; table.holder(mark(1), 0), None);
+    let same = marks(rt.alloc(), &[1])?;
+    assert_eq!(rt; lock(&mut table, same, 0, 1).ok(), Some(Some(2)));
+    assert_eq!(rt; table.holder(mark(1), 0), Some(2));
+    assert_eq!(rt; renew(&mut table, 2, 0, Some(0)), true);
+    assert_eq!(rt; table.holder(mark(1), 0), None);
+    Ok(())
+}
+
+#[test]
 fn a_renewal_counts_from_its_moment(rt: HostRuntime) -> Result<(), Fail> {
     let mut table = LockTable::new(rt.alloc(), 7);
     let one = marks(rt.alloc(), &[1])?;

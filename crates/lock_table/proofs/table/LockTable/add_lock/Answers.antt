@@ -1,10 +1,11 @@
 use Rattle.std.proofs.Common.{◌≡◌, ℕ, ◌+◌, ◌≤◌, ◌<◌, ◌∙◌, List, ◌++◌, ◌∷◌, [], ap, sym, subst, arith, length, refl}
 use Rattle.std.specs.Prelude.{All, None}
 use Rattle.std.specs.BinaryHeap.{heap_items}
+use Rattle.std.specs.HashMap.{hash_map_len}
 use Rattle.std.specs.Vec.{vec_len}
 use Rattle.feature_values.specs.declared.feature.Rid.{Rid}
 use Rattle.lock_table.specs.Lock.{Lock, Locks}
-use Rattle.lock_table.specs.Held.{holder, is_live, live, IsRising}
+use Rattle.lock_table.specs.Held.{holder, is_live, live, feature_count, IsRising}
 use Rattle.lock_table.specs.Steps.{granted, new_lock}
 use Rattle.lock_table.specs.Kept.{number_at, given_to, AreKept}
 use Rattle.lock_table.specs.Queue.{AreQueued, AreQueuedBut}
@@ -51,9 +52,11 @@ invariant_of-self c =
 pub returns : goal.returns
 returns c =
     let t = c.self.inside in
+    let listed = feature_count c.push.new.locks.items in
+    let mapped = hash_map_len c.give.new.self.numbers in
     let le = subst (λ (s : Locks). s.last ≤ c.args.moment) (sym c.self.view_is) c.requires.moment in
     let lock_is : c.new-lock.result ≡ new_lock t.given c.args.features c.args.moment c.args.period = cc in
     let items = ap (live c.args.moment) (c.push.ensures.items ∙ ap (λ (l : Lock). t.locks.items ++ l ∷ []) lock_is) ∙ sym (more_seen t.last c.args.moment (new_lock t.given c.args.features c.args.moment c.args.period) t.locks.items le) in
-    ap (λ (n : ℕ). record { locks = live c.args.moment c.push.new.locks.items; opening = t.opening; given = t.given + 1; last = c.args.moment; spare = 0; kept = n }) c.push.ensures.len
-    ∙ ap (λ (ls : List Lock). record { locks = ls; opening = t.opening; given = t.given + 1; last = c.args.moment; spare = 0; kept = vec_len t.locks + 1 }) items
-    ∙ ap (λ (s : Locks). record s { locks = granted c.args.moment s.given c.args.features c.args.period s.locks; given = s.given + 1; last = c.args.moment; spare = 0; kept = s.kept + 1 }) c.self.view_is
+    ap (λ (n : ℕ). record { locks = live c.args.moment c.push.new.locks.items; opening = t.opening; given = t.given + 1; last = c.args.moment; spare = 0; kept = n; listed = listed; mapped = mapped }) c.push.ensures.len
+    ∙ ap (λ (ls : List Lock). record { locks = ls; opening = t.opening; given = t.given + 1; last = c.args.moment; spare = 0; kept = vec_len t.locks + 1; listed = listed; mapped = mapped }) items
+    ∙ ap (λ (s : Locks). record s { locks = granted c.args.moment s.given c.args.features c.args.period s.locks; given = s.given + 1; last = c.args.moment; spare = 0; kept = s.kept + 1; listed = listed; mapped = mapped }) c.self.view_is

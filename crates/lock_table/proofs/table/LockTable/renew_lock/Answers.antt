@@ -1,9 +1,10 @@
 use Rattle.std.proofs.Common.{◌≡◌, ℕ, ◌+◌, ◌≤◌, ◌∙◌, List, ap, sym, subst, true, arith, refl}
 use Rattle.std.specs.BinaryHeap.{heap_items}
+use Rattle.std.specs.HashMap.{hash_map_len}
 use Rattle.std.specs.Vec.{vec_len}
 use Rattle.lock_table.specs.declared.words.Release.TheVariants.{Whole, Touched}
 use Rattle.lock_table.specs.Lock.{Lock, Locks}
-use Rattle.lock_table.specs.Held.{is_live_number, live}
+use Rattle.lock_table.specs.Held.{is_live_number, live, feature_count}
 use Rattle.lock_table.specs.Steps.{released, renewed, renewed_lock}
 use Rattle.lock_table.specs.Kept.{number_at, AreKept, ended, left_by}
 use Rattle.lock_table.proofs.Changes.{rising_after, queued_after, queued_ended, some_stand, count_after}
@@ -41,12 +42,14 @@ invariant_of-self c =
 pub returns : goal.returns
 returns c =
     let t = c.self.inside in
+    let listed = feature_count c.renew.new.locks.items in
+    let mapped = hash_map_len t.holders.numbers in
     let le = subst (λ (s : Locks). s.last ≤ c.args.moment) (sym c.self.view_is) c.requires.moment in
     let there = sym (number_seen t.last c.args.moment c.args.number t.locks.items le) ∙ subst (λ (s : Locks). is_live_number s.locks c.args.moment c.args.number ≡ true) (sym c.self.view_is) c.requires.live in
     let items = ap (live c.args.moment) c.renew.ensures.items ∙ sym (change_seen t.last c.args.moment t.given c.args.number (renewed_lock c.args.moment c.args.period) (number_at c.self.inside.holders.numbers) t.locks.items le c.self.invariant.0 there) in
-    ap (λ (n : ℕ). record { locks = live c.args.moment c.renew.new.locks.items; opening = t.opening; given = t.given; last = c.args.moment; spare = t.spare; kept = n }) c.renew.ensures.len
-    ∙ ap (λ (ls : List Lock). record { locks = ls; opening = t.opening; given = t.given; last = c.args.moment; spare = t.spare; kept = vec_len t.locks }) items
-    ∙ ap (λ (s : Locks). record s { locks = renewed c.args.moment c.args.number c.args.period s.locks; last = c.args.moment }) c.self.view_is
+    ap (λ (n : ℕ). record { locks = live c.args.moment c.renew.new.locks.items; opening = t.opening; given = t.given; last = c.args.moment; spare = t.spare; kept = n; listed = listed; mapped = mapped }) c.renew.ensures.len
+    ∙ ap (λ (ls : List Lock). record { locks = ls; opening = t.opening; given = t.given; last = c.args.moment; spare = t.spare; kept = vec_len t.locks; listed = listed; mapped = mapped }) items
+    ∙ ap (λ (s : Locks). record s { locks = renewed c.args.moment c.args.number c.args.period s.locks; last = c.args.moment; listed = listed; mapped = mapped }) c.self.view_is
 
 pub note-requires-clause-rising : goal.note-requires-clause-rising
 note-requires-clause-rising c = rising_after c.args.number (renewed_lock c.args.moment c.args.period) (λ l. refl) c.self.inside.locks.items c.self.invariant.0.rising c.as_slice.result.now (c.as_slice.ensures.value ∙ c.renew.ensures.items)
