@@ -1,13 +1,12 @@
 -- How many of the kept locks have not been ended.
-use Rattle.std.proofs.Common.{◌≡◌, ℕ, ◌+◌, ◌<◌, ◌≤◌, Bool, true, false, cond, ◌&&◌, ◌||◌, List, [], ◌∷◌, ◌++◌, length, refl, sym, ap, subst, ◌∙◌, arith}
+use Rattle.std.proofs.Common.{◌≡◌, ℕ, ◌+◌, ◌≤◌, Bool, true, false, cond, ◌&&◌, ◌||◌, List, [], ◌∷◌, ◌++◌, length, refl, sym, ap, subst, ◌∙◌, arith}
 use Rattle.std.specs.Prelude.{◌==◌, suc, nat_lt, if◌then◌else◌}
-use Rattle.std.specs.List.{AllByRecursion, filter, list_any}
+use Rattle.std.specs.List.{AllByRecursion}
 use Rattle.lock_table.specs.Lock.{Lock}
 use Rattle.lock_table.specs.Held.{is_live, live, has_number, is_live_number, IsRising}
 use Rattle.lock_table.specs.Kept.{ended}
 use Rattle.lock_table.specs.Steps.{changed_at}
 use Rattle.lock_table.proofs.Rising.{HasNot, above, none_changed, live_here, is_number_of}
-use Rattle.lock_table.proofs.Seen.{later_ended, live_seen}
 
 abbrev pub one_if : Bool → ℕ
 one_if b = cond b 1 0

@@ -1,19 +1,19 @@
 -- A grant on features that nobody holds, and a lock that touched features leave.
-use Rattle.std.proofs.Common.{◌≡◌, ℕ, ◌+◌, ◌<◌, ◌≤◌, Bool, true, false, cond, ◌&&◌, ◌||◌, List, [], ◌∷◌, ◌++◌, length, get_or, Option, Some, None, refl, sym, ap, subst, ◌∙◌, arith}
-use Rattle.std.specs.Prelude.{◌==◌, zero, suc, not, nat_lt, if◌then◌else◌, All}
-use Rattle.std.specs.List.{AllByRecursion, filter, list_any}
+use Rattle.std.proofs.Common.{◌≡◌, ℕ, ◌+◌, ◌≤◌, Bool, true, false, cond, ◌&&◌, ◌||◌, List, [], ◌∷◌, ◌++◌, length, Option, Some, None, refl, sym, ap, subst, ◌∙◌, arith}
+use Rattle.std.specs.Prelude.{◌==◌, suc, not, nat_lt, if◌then◌else◌, All}
+use Rattle.std.specs.List.{AllByRecursion, filter}
 use Rattle.std.specs.Option.{option_or}
 use Rattle.feature_values.specs.declared.feature.Rid.{Rid}
 use Rattle.lock_table.specs.Lock.{Lock}
 use Rattle.lock_table.specs.Held.{is_live, live, is_same, is_among, lists, first_of, held, holder, has_number, is_live_number, IsRising}
 use Rattle.lock_table.specs.Kept.{is_number, given_to, freed_of, IsHeldBy, AreKept, ended, left_with, left_by}
-use Rattle.lock_table.specs.Steps.{new_lock, granted, changed_at, without, released}
+use Rattle.lock_table.specs.Steps.{new_lock, changed_at, without, released}
 use Rattle.lock_table.specs.declared.words.Release.TheVariants.{Whole, Touched}
 use Rattle.lock_table.proofs.Keeping.{later_live}
 use Rattle.lock_table.proofs.Listed.{granted_listed}
 use Rattle.lock_table.proofs.Map.{same_is}
 use Rattle.lock_table.proofs.Rising.{IsLiveAs, is_number_of, all_weaker, all_both, all_more, live_one, rising_more}
-use Rattle.lock_table.proofs.Seen.{later_ended, holder_seen, more_seen, number_seen, changed_seen, ended_out}
+use Rattle.lock_table.proofs.Seen.{later_ended, holder_seen, changed_seen, ended_out}
 
 -- features that nobody holds
 

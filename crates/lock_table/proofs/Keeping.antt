@@ -1,16 +1,14 @@
 -- The list and the map by feature agree, whatever the calls do.
-use Rattle.std.proofs.Common.{◌≡◌, ℕ, ◌+◌, ◌<◌, ◌≤◌, Bool, true, false, cond, ◌&&◌, ◌||◌, List, [], ◌∷◌, ◌++◌, length, get_or, Option, Some, None, refl, sym, ap, subst, ◌∙◌, arith}
-use Rattle.std.specs.Prelude.{◌==◌, zero, suc, not, if◌then◌else◌, All}
-use Rattle.std.specs.List.{AllByRecursion, filter, list_any}
-use Rattle.std.specs.Option.{option_or}
+use Rattle.std.proofs.Common.{◌≡◌, ℕ, ◌<◌, ◌≤◌, Bool, true, false, ◌&&◌, List, [], length, get_or, Option, Some, None, refl, sym, subst, ◌∙◌, arith}
+use Rattle.std.specs.Prelude.{◌==◌, if◌then◌else◌}
+use Rattle.std.specs.List.{filter}
 use Rattle.feature_values.specs.declared.feature.Rid.{Rid}
 use Rattle.lock_table.specs.Lock.{Lock}
-use Rattle.lock_table.specs.Held.{is_live, live, is_same, is_among, lists, first_of, held, holder, has_number, is_live_number, features_of, IsRising}
-use Rattle.lock_table.specs.Kept.{is_number, given_to, freed_of, IsHeldBy, IsFreed, AreListed, AreKept, ended, ended_features, left_by}
+use Rattle.lock_table.specs.Held.{is_live, live, is_among, has_number, is_live_number, features_of}
+use Rattle.lock_table.specs.Kept.{is_number, freed_of, IsHeldBy, AreListed, AreKept, ended, ended_features, left_by}
 use Rattle.lock_table.specs.Steps.{renewed_lock, changed_at}
-use Rattle.lock_table.proofs.Map.{same_is}
 use Rattle.lock_table.proofs.Listed.{freed_fewer, among_kept, fewer_listed, renewed_listed, ended_listed, left_listed}
-use Rattle.lock_table.proofs.Rising.{HasNot, IsLiveAs, is_number_of, all_weaker, all_both, all_filter, all_changed, all_more, live_one, ended_number, rising_changed, rising_filter, rising_more}
+use Rattle.lock_table.proofs.Rising.{HasNot, IsLiveAs, is_number_of, all_weaker, all_both, all_filter, all_changed, live_one, ended_number, rising_changed, rising_filter}
 
 pub later_live : (last moment : ℕ) (l : Lock) → last ≤ moment → is_live moment l ≡ true → is_live last l ≡ true
 later_live last moment l le live = grind (arith, live, le)

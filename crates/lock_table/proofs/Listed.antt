@@ -1,10 +1,10 @@
 -- Each feature that the map names is listed by the lock that it names.
-use Rattle.std.proofs.Common.{◌≡◌, ℕ, ◌+◌, ◌<◌, ◌≤◌, Bool, true, false, cond, ◌&&◌, ◌||◌, List, [], ◌∷◌, ◌++◌, length, get_or, take, Option, Some, None, refl, sym, ap, subst, ◌∙◌, arith}
-use Rattle.std.specs.Prelude.{◌==◌, not, if◌then◌else◌}
+use Rattle.std.proofs.Common.{◌≡◌, ℕ, ◌+◌, ◌<◌, Bool, true, false, cond, ◌&&◌, ◌||◌, List, [], ◌∷◌, ◌++◌, length, get_or, take, Option, Some, None, refl, sym, subst, ◌∙◌, arith}
+use Rattle.std.specs.Prelude.{◌==◌, if◌then◌else◌}
 use Rattle.std.specs.List.{AllByRecursion, filter, list_any}
 use Rattle.feature_values.specs.declared.feature.Rid.{Rid}
 use Rattle.lock_table.specs.Lock.{Lock}
-use Rattle.lock_table.specs.Held.{is_live, live, is_same, is_among, lists, first_of, has_number, numbered, features_of, IsRising}
+use Rattle.lock_table.specs.Held.{is_live, live, is_same, is_among, lists, first_of, has_number, features_of, IsRising}
 use Rattle.lock_table.specs.Kept.{is_number, given_to, freed_of, is_listed, AreListed, IsFreed, ended, ended_features, left_by}
 use Rattle.lock_table.specs.Steps.{new_lock, renewed_lock, changed_at}
 use Rattle.lock_table.proofs.Map.{same_is}

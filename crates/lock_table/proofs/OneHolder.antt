@@ -1,12 +1,12 @@
 -- The map by feature tells the holder, and at most one live lock lists a feature.
-use Rattle.std.proofs.Common.{◌≡◌, ℕ, ◌+◌, ◌<◌, ◌≤◌, Bool, true, false, cond, ◌&&◌, ◌||◌, List, [], ◌∷◌, length, Option, Some, None, refl, sym, ap, subst, ◌∙◌, arith}
-use Rattle.std.specs.Prelude.{◌==◌, suc, if◌then◌else◌}
-use Rattle.std.specs.List.{AllByRecursion, filter, list_any}
+use Rattle.std.proofs.Common.{◌≡◌, ℕ, ◌<◌, ◌≤◌, Bool, true, false, cond, ◌&&◌, ◌||◌, List, [], ◌∷◌, length, Option, Some, None, refl, sym, ap, ◌∙◌, arith}
+use Rattle.std.specs.Prelude.{if◌then◌else◌}
+use Rattle.std.specs.List.{AllByRecursion, filter}
 use Rattle.std.specs.Option.{option_or}
 use Rattle.feature_values.specs.declared.feature.Rid.{Rid}
 use Rattle.lock_table.specs.Lock.{Lock}
 use Rattle.lock_table.specs.Held.{is_live, live, lists, first_of, held, holder, has_number, is_live_number, IsRising, HaveOneHolder, AreNumbered}
-use Rattle.lock_table.specs.Kept.{is_number, holder_by, IsHeldBy, AreKept}
+use Rattle.lock_table.specs.Kept.{holder_by, IsHeldBy, AreKept}
 use Rattle.lock_table.proofs.Keeping.{later_live}
 use Rattle.lock_table.proofs.Rising.{is_number_of, rising_filter, all_filter}
 

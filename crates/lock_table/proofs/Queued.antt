@@ -1,15 +1,15 @@
 -- The queue has an entry of each lock that has still to be ended.
-use Rattle.std.proofs.Common.{◌≡◌, ℕ, ◌+◌, ◌<◌, ◌≤◌, Bool, true, false, cond, ◌&&◌, ◌||◌, List, [], ◌∷◌, ◌++◌, length, get_or, take, refl, sym, ap, subst, ◌∙◌, arith}
-use Rattle.std.specs.Prelude.{◌==◌, zero, suc, not, nat_lt, if◌then◌else◌, slice_index_or}
+use Rattle.std.proofs.Common.{◌≡◌, ℕ, ◌+◌, ◌<◌, ◌≤◌, Bool, true, false, cond, ◌||◌, List, [], ◌∷◌, ◌++◌, length, get_or, take, refl, sym, ap, subst, ◌∙◌, arith}
+use Rattle.std.specs.Prelude.{◌==◌, zero, suc, slice_index_or}
 use Rattle.std.specs.List.{AllByRecursion, filter, list_any}
 use Rattle.std.specs.Ordering.{nat_cmp, ordering_then, is_lt}
 use Rattle.std.specs.declared.cmp.Ordering.{Ordering}
 use Rattle.std.specs.declared.cmp.Ordering.TheVariants.{Less, Equal, Greater}
 use Rattle.std.proofs.lemmas.Cmp.{ranked}
 use Rattle.lock_table.specs.Lock.{Lock}
-use Rattle.lock_table.specs.Held.{is_live, live, has_number, is_live_number, IsRising}
+use Rattle.lock_table.specs.Held.{is_live, live, has_number, IsRising}
 use Rattle.lock_table.specs.Kept.{ended}
-use Rattle.lock_table.specs.Queue.{Due, due_at, due_cmp, has_come, due_count, awaits_end, is_entry_of, is_queued, AreQueued, AreQueuedBut}
+use Rattle.lock_table.specs.Queue.{Due, due_at, due_cmp, has_come, awaits_end, is_entry_of, is_queued, AreQueued, AreQueuedBut}
 use Rattle.lock_table.specs.Steps.{changed_at}
 use Rattle.lock_table.proofs.Rising.{HasNot, above, not_yet, all_weaker, all_changed, all_more}
 use Rattle.lock_table.proofs.Seen.{later_ended}

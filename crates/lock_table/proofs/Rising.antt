@@ -1,10 +1,9 @@
 -- Locks whose numbers rise: a number is that of at most one of them.
-use Rattle.std.proofs.Common.{◌≡◌, ℕ, ◌+◌, ◌<◌, ◌≤◌, Bool, true, false, cond, ◌&&◌, ◌||◌, List, [], ◌∷◌, ◌++◌, length, map, get_or, Option, Some, None, refl, sym, ap, subst, ◌∙◌, arith}
-use Rattle.std.specs.Prelude.{◌==◌, zero, suc, not, if◌then◌else◌, slice_set, unwrap_or}
-use Rattle.std.specs.List.{AllByRecursion, filter, list_any}
-use Rattle.feature_values.specs.declared.feature.Rid.{Rid}
+use Rattle.std.proofs.Common.{◌≡◌, ℕ, ◌+◌, ◌<◌, ◌≤◌, Bool, true, false, cond, ◌&&◌, ◌||◌, List, [], ◌∷◌, ◌++◌, length, get_or, refl, sym, ap, subst, ◌∙◌, arith}
+use Rattle.std.specs.Prelude.{◌==◌, zero, suc, if◌then◌else◌, slice_set}
+use Rattle.std.specs.List.{AllByRecursion, filter}
 use Rattle.lock_table.specs.Lock.{Lock}
-use Rattle.lock_table.specs.Held.{first_of, is_live, has_number, is_live_number, numbered, features_of, IsRising}
+use Rattle.lock_table.specs.Held.{first_of, is_live, has_number, is_live_number, features_of, IsRising}
 use Rattle.lock_table.specs.Steps.{changed_at}
 
 -- none has a number

@@ -1,13 +1,13 @@
 -- What is said of the locks that are live at the last moment is said of the kept ones, among which ended ones stand.
-use Rattle.std.proofs.Common.{◌≡◌, ℕ, ◌+◌, ◌<◌, ◌≤◌, Bool, true, false, cond, ◌&&◌, ◌||◌, List, [], ◌∷◌, ◌++◌, length, Option, Some, None, refl, sym, ap, subst, ◌∙◌, arith}
-use Rattle.std.specs.Prelude.{◌==◌, suc, not, if◌then◌else◌, unwrap_or}
+use Rattle.std.proofs.Common.{◌≡◌, ℕ, ◌≤◌, Bool, true, false, cond, ◌&&◌, ◌||◌, List, [], ◌∷◌, ◌++◌, Option, None, refl, sym, ap, ◌∙◌, arith}
+use Rattle.std.specs.Prelude.{not, if◌then◌else◌, unwrap_or}
 use Rattle.std.specs.List.{AllByRecursion, filter, list_any}
 use Rattle.std.specs.Option.{option_or}
 use Rattle.feature_values.specs.declared.feature.Rid.{Rid}
 use Rattle.lock_table.specs.Lock.{Lock}
-use Rattle.lock_table.specs.Held.{is_live, live, is_among, lists, first_of, held, holder, has_number, is_live_number, numbered, features_of, IsRising}
-use Rattle.lock_table.specs.Kept.{is_number, IsHeldBy, ended, left_with, left_by}
-use Rattle.lock_table.specs.Steps.{renewed_lock, changed_at, without}
+use Rattle.lock_table.specs.Held.{is_live, live, first_of, held, holder, has_number, is_live_number, numbered, features_of}
+use Rattle.lock_table.specs.Kept.{ended}
+use Rattle.lock_table.specs.Steps.{changed_at}
 use Rattle.lock_table.proofs.Rising.{IsLiveAs}
 
 pub later_ended : (last moment : ℕ) (l : Lock) → last ≤ moment → is_live last l ≡ false → is_live moment l ≡ false

@@ -1,6 +1,6 @@
 -- How the table keeps its locks: in a list in which ended ones may stand, and beside it a map from each held feature
 -- to the number of the lock that holds it.
-use Rattle.std.specs.Prelude.{◌≡◌, ℕ, ◌+◌, ◌<◌, ◌≤◌, length, Bool, true, false, ◌==◌, ◌&&◌, nat_eq, List, [], ◌∷◌, Option, Some, None, if◌then◌else◌}
+use Rattle.std.specs.Prelude.{◌≡◌, ℕ, ◌+◌, ◌<◌, ◌≤◌, length, Bool, true, false, ◌==◌, ◌&&◌, nat_eq, List, [], Option, Some, None, if◌then◌else◌}
 use Rattle.std.specs.List.{AllByRecursion, filter, list_any}
 use Rattle.std.specs.HashMap.{HashMap, get}
 use Rattle.feature_values.specs.declared.feature.Rid.{Rid}

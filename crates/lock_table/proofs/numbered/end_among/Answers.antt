@@ -1,6 +1,5 @@
 use Rattle.std.proofs.Common.{sym}
-use Rattle.lock_table.specs.Kept.{number_at, ended, left_by}
-use Rattle.lock_table.specs.Steps.{renewed_lock}
+use Rattle.lock_table.specs.Kept.{ended}
 use Rattle.lock_table.proofs.Rising.{changed_place, none_changed}
 use Rattle.lock_table.proofs.numbered.end_among.Goals as goal
 

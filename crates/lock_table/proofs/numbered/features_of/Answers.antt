@@ -1,4 +1,4 @@
-use Rattle.std.proofs.Common.{◌≡◌, ◌∙◌, sym, ap, List}
+use Rattle.std.proofs.Common.{◌∙◌, sym, ap}
 use Rattle.lock_table.specs.Lock.{Lock}
 use Rattle.lock_table.proofs.Rising.{features_at, none_numbered}
 use Rattle.lock_table.proofs.numbered.features_of.Goals as goal

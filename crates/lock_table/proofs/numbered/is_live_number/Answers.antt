@@ -1,4 +1,4 @@
-use Rattle.std.proofs.Common.{◌≡◌, ◌∙◌, sym, ap, arith}
+use Rattle.std.proofs.Common.{◌∙◌, sym, ap}
 use Rattle.lock_table.specs.Held.{is_live}
 use Rattle.lock_table.specs.Lock.{Lock}
 use Rattle.lock_table.proofs.Rising.{live_at, not_live}

@@ -1,4 +1,4 @@
-use Rattle.std.proofs.Common.{◌≡◌, ◌≤◌, ℕ, take}
+use Rattle.std.proofs.Common.{◌≤◌, ℕ, take}
 use Rattle.std.specs.HashMap.{spare, hash_map_len}
 use Rattle.std.specs.List.{AllByRecursion}
 use Rattle.lock_table.specs.Kept.{number_at, IsFreed, AreKept}

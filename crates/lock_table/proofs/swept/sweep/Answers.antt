@@ -1,7 +1,7 @@
-use Rattle.std.proofs.Common.{◌≡◌, ℕ, rules, sym, subst}
+use Rattle.std.proofs.Common.{rules}
 use Rattle.std.proofs.lemmas.Fn.{filter_same}
 use Rattle.lock_table.specs.Held.{is_live}
-use Rattle.lock_table.specs.Kept.{number_at, AreKept}
+use Rattle.lock_table.specs.Kept.{number_at}
 use Rattle.lock_table.proofs.Keeping.{filter_kept}
 use Rattle.lock_table.proofs.Listed.{live_listed}
 use Rattle.lock_table.proofs.Room.{fewer_listed}

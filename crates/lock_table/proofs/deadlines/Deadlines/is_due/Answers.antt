@@ -1,5 +1,4 @@
-use Rattle.std.proofs.Common.{◌≡◌, arith}
-use Rattle.lock_table.specs.Queue.{has_come}
+use Rattle.std.proofs.Common.{arith}
 use Rattle.lock_table.proofs.Queued.{any_come}
 use Rattle.lock_table.proofs.deadlines.Deadlines.is_due.Goals as goal
 

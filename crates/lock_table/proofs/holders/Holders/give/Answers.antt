@@ -1,5 +1,4 @@
 use Rattle.std.proofs.Common.{arith}
-use Rattle.feature_values.specs.declared.feature.Rid.{Rid}
 use Rattle.lock_table.specs.Kept.{number_at}
 use Rattle.lock_table.proofs.Map.{given_more}
 use Rattle.lock_table.proofs.holders.Holders.give.Goals as goal

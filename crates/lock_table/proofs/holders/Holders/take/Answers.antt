@@ -1,4 +1,4 @@
-use Rattle.std.proofs.Common.{◌∙◌, ◌≡◌, sym, true}
+use Rattle.std.proofs.Common.{◌∙◌, ◌≡◌, true}
 use Rattle.lock_table.specs.Kept.{number_at, is_number}
 use Rattle.lock_table.proofs.Map.{taken}
 use Rattle.lock_table.proofs.holders.Holders.take.Goals as goal

@@ -1,4 +1,4 @@
-use Rattle.std.proofs.Common.{◌≡◌, ℕ, ◌+◌, ◌≤◌, ◌<◌, ◌∙◌, List, ◌++◌, ◌∷◌, [], ap, sym, subst, arith, length, refl}
+use Rattle.std.proofs.Common.{◌≡◌, ℕ, ◌+◌, ◌≤◌, ◌<◌, ◌∙◌, List, ◌++◌, ◌∷◌, [], ap, sym, subst, arith, length}
 use Rattle.std.specs.Prelude.{All, None}
 use Rattle.std.specs.BinaryHeap.{heap_items}
 use Rattle.std.specs.HashMap.{hash_map_len}

@@ -1,4 +1,4 @@
-use Rattle.std.proofs.Common.{◌≡◌, ℕ, ◌+◌, ◌≤◌, ◌∙◌, List, ap, sym, subst, true, false, arith}
+use Rattle.std.proofs.Common.{◌≡◌, ℕ, ◌∙◌, List, ap, sym, subst, false, arith}
 use Rattle.std.specs.BinaryHeap.{heap_items}
 use Rattle.std.specs.Vec.{vec_len}
 use Rattle.lock_table.specs.Lock.{Lock}

@@ -2,7 +2,6 @@ use Rattle.std.proofs.Common.{◌≡◌, length}
 use Rattle.std.specs.BinaryHeap.{heap_items, heap_capacity}
 use Rattle.std.specs.HashMap.{spare}
 use Rattle.std.specs.Vec.{vec_len, vec_capacity}
-use Rattle.lock_table.specs.Lock.{Locks}
 use Rattle.lock_table.specs.Held.{live}
 use Rattle.lock_table.specs.Kept.{number_at, AreKept, HasRoom}
 use Rattle.lock_table.specs.Queue.{due_count, AreQueued}

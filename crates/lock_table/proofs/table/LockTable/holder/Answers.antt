@@ -1,4 +1,4 @@
-use Rattle.std.proofs.Common.{◌≡◌, ◌≤◌, ◌∙◌, ap, sym, subst}
+use Rattle.std.proofs.Common.{◌≤◌, ◌∙◌, ap, sym, subst}
 use Rattle.lock_table.specs.Lock.{Locks}
 use Rattle.lock_table.specs.Held.{HaveOneHolder, AreNumbered, holder}
 use Rattle.lock_table.specs.Kept.{number_at}

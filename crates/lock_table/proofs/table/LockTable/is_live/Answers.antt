@@ -1,4 +1,4 @@
-use Rattle.std.proofs.Common.{◌≡◌, ◌≤◌, ◌∙◌, ap, sym, subst}
+use Rattle.std.proofs.Common.{◌≤◌, ◌∙◌, ap, sym, subst}
 use Rattle.lock_table.specs.Lock.{Locks}
 use Rattle.lock_table.specs.Held.{is_live_number}
 use Rattle.lock_table.proofs.Seen.{number_seen}

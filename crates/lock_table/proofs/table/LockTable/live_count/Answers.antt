@@ -1,4 +1,4 @@
-use Rattle.std.proofs.Common.{◌≡◌, ◌≤◌, ◌∙◌, List, length, ap, sym, subst}
+use Rattle.std.proofs.Common.{◌≤◌, ◌∙◌, List, length, ap, sym, subst}
 use Rattle.std.specs.BinaryHeap.{heap_items}
 use Rattle.lock_table.specs.Lock.{Lock, Locks}
 use Rattle.lock_table.specs.Held.{live}

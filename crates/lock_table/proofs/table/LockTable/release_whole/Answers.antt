@@ -1,16 +1,16 @@
-use Rattle.std.proofs.Common.{◌≡◌, ℕ, ◌+◌, ◌≤◌, ◌∙◌, List, ap, sym, subst, true, arith, refl}
+use Rattle.std.proofs.Common.{◌≡◌, ℕ, ◌≤◌, ◌∙◌, List, ap, sym, subst, true, arith, refl}
 use Rattle.std.specs.BinaryHeap.{heap_items}
 use Rattle.std.specs.HashMap.{hash_map_len}
 use Rattle.std.specs.Vec.{vec_len}
-use Rattle.lock_table.specs.declared.words.Release.TheVariants.{Whole, Touched}
+use Rattle.lock_table.specs.declared.words.Release.TheVariants.{Whole}
 use Rattle.lock_table.specs.Lock.{Lock, Locks}
 use Rattle.lock_table.specs.Held.{is_live_number, live, feature_count}
-use Rattle.lock_table.specs.Steps.{released, renewed, renewed_lock}
-use Rattle.lock_table.specs.Kept.{number_at, AreKept, ended, left_by}
-use Rattle.lock_table.proofs.Changes.{rising_after, queued_after, queued_ended, some_stand, count_after}
+use Rattle.lock_table.specs.Steps.{released}
+use Rattle.lock_table.specs.Kept.{number_at, AreKept, ended}
+use Rattle.lock_table.proofs.Changes.{rising_after, queued_ended, some_stand, count_after}
 use Rattle.lock_table.proofs.Counted.{stands}
-use Rattle.lock_table.proofs.Granting.{change_seen, whole_ended, touched_left}
-use Rattle.lock_table.proofs.Keeping.{renewed_kept, ended_kept, left_kept}
+use Rattle.lock_table.proofs.Granting.{whole_ended}
+use Rattle.lock_table.proofs.Keeping.{ended_kept}
 use Rattle.lock_table.proofs.Queued.{queued_but}
 use Rattle.lock_table.proofs.Seen.{number_seen}
 use Rattle.lock_table.proofs.table.LockTable.release_whole.Goals as goal
