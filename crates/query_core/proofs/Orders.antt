@@ -1,5 +1,5 @@
 -- The order of features is total: of any two one is first, or they are equal, and this does not depend on others.
-use Rattle.std.proofs.Common.{◌≡◌, ℕ, Bool, true, false, cond, List, [], ◌∷◌, ℤ, pos, refl, sym, ap, ◌∙◌}
+use Rattle.std.proofs.Common.{◌≡◌, ℕ, Bool, true, false, cond, List, [], ◌∷◌, ℤ, pos, Some, None, refl, sym, ap, ◌∙◌}
 use Rattle.std.specs.Cmp.{IsTotalOrder}
 use Rattle.std.specs.Cmp.Lexicographic.{slice_cmp}
 use Rattle.std.specs.declared.cmp.Ordering.{Ordering}
@@ -11,7 +11,9 @@ use Rattle.feature_values.specs.declared.value.Value.TheVariants.{Null, Words, W
 use Rattle.feature_values.specs.declared.feature.Feature.{Feature}
 use Rattle.fes_filter.specs.declared.query.SortKey.{SortKey}
 use Rattle.fes_filter.specs.Truth.{property_of}
-use Rattle.query_core.specs.Sorting.{kind_place, value_order, or_null, key_order, rid_order, feature_order}
+use Rattle.feature_values.specs.Order.{order_of}
+use Rattle.query_core.specs.Keyed.{Pair, by_way, pair_order}
+use Rattle.query_core.specs.Sorting.{kind_place, value_order, or_equal, or_null, key_order, rid_order, feature_order}
 
 -- an order that answers as a total one is total
 pub total_as : {K : Type 0} (R S : K → K → Ordering) → ((x y : K) → R x y ≡ S x y) → IsTotalOrder S → IsTotalOrder R
@@ -99,6 +101,37 @@ value_total =
     total_as value_order by_parts as_parts
     (then_total (on_total kind_place nat_cmp_total) (then_total (on_total words_of nat_list_cmp_total) (then_total (on_total whole_of int_cmp_total) (on_total truth_in bool_cmp_total))))
 
+-- ---- values of one kind, and of two
+
+some_same : {X : Type 0} (x y : X) → Some x ≡ Some y → x ≡ y
+some_same x y is = cc
+
+-- an order of two values of one kind is their order
+pub one_kind : (a b : Value) (o : Ordering) → Some o ≡ order_of a b → o ≡ value_order a b
+unfolding value_order
+one_kind (Words a) (Words b) o is = some_same o (slice_cmp nat_cmp a b) is
+one_kind (Whole a) (Whole b) o is = some_same o (int_cmp a b) is
+one_kind (Truth a) (Truth b) o is = some_same o (bool_cmp a b) is
+one_kind Null b o is = cc
+one_kind (Shape a) b o is = cc
+one_kind (Words a) Null o is = cc
+one_kind (Words a) (Whole b) o is = cc
+one_kind (Words a) (Truth b) o is = cc
+one_kind (Words a) (Shape b) o is = cc
+one_kind (Whole a) Null o is = cc
+one_kind (Whole a) (Words b) o is = cc
+one_kind (Whole a) (Truth b) o is = cc
+one_kind (Whole a) (Shape b) o is = cc
+one_kind (Truth a) Null o is = cc
+one_kind (Truth a) (Words b) o is = cc
+one_kind (Truth a) (Whole b) o is = cc
+one_kind (Truth a) (Shape b) o is = cc
+
+-- where two values have none, their kinds stand to each other as they do
+pub two_kinds : (a b : Value) → None ≡ order_of a b → nat_cmp (kind_place a) (kind_place b) ≡ value_order a b
+unfolding value_order
+two_kinds a b is = then_equal (nat_cmp (kind_place a) (kind_place b)) ∙ ap (λ o. ordering_then (nat_cmp (kind_place a) (kind_place b)) (or_equal o)) is
+
 -- ---- features
 
 value_at : SortKey → Feature → Value
@@ -111,18 +144,14 @@ ascending_total : (key : SortKey) → IsTotalOrder (ascending key)
 unfolding ascending
 ascending_total key = on_total (value_at key) value_total
 
--- a key's order, by whether it descends
-by_way : SortKey → Bool → Feature → Feature → Ordering
-by_way key descending a b = cond descending (ordering_reverse (ascending key a b)) (ascending key a b)
-
-way_total : (key : SortKey) (descending : Bool) → IsTotalOrder (by_way key descending)
-unfolding by_way
-way_total key false = ascending_total key
-way_total key true = total_as (by_way key true) (flip_args (ascending key)) (λ a b. sym ((ascending_total key).antisymm b a)) (back_total (ascending_total key))
+-- an order, by whether it is to descend
+way_total : {K : Type 0} (R : K → K → Ordering) (descending : Bool) → IsTotalOrder R → IsTotalOrder (λ a b. by_way descending (R a b))
+way_total R false o = o
+way_total R true o = total_as (λ a b. ordering_reverse (R a b)) (flip_args R) (λ a b. sym (o.antisymm b a)) (back_total o)
 
 key_total : (key : SortKey) → IsTotalOrder (key_order key)
-unfolding key_order by_way ascending value_at
-key_total key = total_as (key_order key) (by_way key key.descending) (λ a b. refl) (way_total key key.descending)
+unfolding key_order ascending value_at
+key_total key = total_as (key_order key) (λ a b. by_way key.descending (ascending key a b)) (λ a b. refl) (way_total (ascending key) key.descending (ascending_total key))
 
 pub rid_total : IsTotalOrder rid_order
 unfolding rid_order
@@ -132,3 +161,10 @@ pub feature_total : (keys : List SortKey) → IsTotalOrder (feature_order keys)
 unfolding feature_order
 feature_total [] = on_total (λ f. f.id) rid_total
 feature_total (key ∷ keys) = then_total (key_total key) (feature_total keys)
+
+-- features beside the values by which they are sorted first
+pub pair_total : (keys : List SortKey) → IsTotalOrder (pair_order keys)
+unfolding pair_order
+pair_total [] = on_total (λ (p : Pair). p.1.id) rid_total
+pair_total (key ∷ keys) =
+    then_total (way_total (on (λ (p : Pair). p.0) value_order) key.descending (on_total (λ (p : Pair). p.0) value_total)) (on_total (λ (p : Pair). p.1) (feature_total keys))

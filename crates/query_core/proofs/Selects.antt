@@ -37,6 +37,6 @@ unfolding selected
 select_plain features query keys found order is empty all =
     ap ids_of (all ∙ sym (stays_sorted (filter (is_selected query) features) (in_order_filter (is_selected query) features order)) ∙ ap (λ ks. sorted ks (filter (is_selected query) features)) (sym (no_keys keys empty) ∙ is))
 
-pub select_sorted : (features : List Feature) (query : Query) (keys : List SortKey) (found ordered : List Feature) → keys ≡ query.sort → found ≡ filter (is_selected query) features → ordered ≡ sorted keys found → ids_of ordered ≡ selected_ids features query
+pub select_sorted : (features : List Feature) (query : Query) (keys : List SortKey) (found : List Feature) → keys ≡ query.sort → found ≡ filter (is_selected query) features → ids_of (sorted keys found) ≡ selected_ids features query
 unfolding selected
-select_sorted features query keys found ordered is all by_keys = ap ids_of (by_keys ∙ rw (is, all) refl)
+select_sorted features query keys found is all = rw (is, all) refl

@@ -12,8 +12,10 @@ use Rattle.std.proofs.lemmas.List.Elements.{recursion_from_All}
 use Rattle.std.proofs.lemmas.List.Sorted.{ranks_by, sorted_far}
 use Rattle.feature_values.specs.declared.feature.Feature.{Feature}
 use Rattle.fes_filter.specs.declared.query.SortKey.{SortKey}
-use Rattle.query_core.specs.Sorting.{put_in, sorted, feature_order}
-use Rattle.query_core.proofs.Orders.{feature_total}
+use Rattle.query_core.specs.declared.keyed.Keyed.{Keyed}
+use Rattle.query_core.specs.Keyed.{Pair, pair_of, pair_by, pair_order}
+use Rattle.query_core.specs.Sorting.{put_in, sorted, key_order, feature_order}
+use Rattle.query_core.proofs.Orders.{pair_total}
 
 -- ---- what an order says of two elements
 
@@ -163,23 +165,62 @@ module _ {X : Type 0} (R : X → X → Ordering) where
     pub sort_is : (xs ys : List X) → IsSortedBy (λ a b. is_lt (R a b)) ys → IsStableBy (λ a b. is_lt (R a b)) xs ys → ys ≡ sorted_by xs
     sort_is xs ys up stable = unique ys (sorted_by xs) (rises_from_sort ys up) (sorted_rises xs) (λ x. stable x ∙ sym (sorted_stable x xs))
 
--- ---- features that stand behind references, or the like
+-- ---- lists that stand for others
 
-put_as_at : {X : Type 0} (now : X → Feature) (b : Bool) (gs hs : List X) (more : List Feature) → map now gs ≡ more → (g : X) → map now (cond b (g ∷ gs) hs) ≡ cond b (now g ∷ more) (map now hs)
-put_as_at now true gs hs more is g = ap (λ l. now g ∷ l) is
-put_as_at now false gs hs more is g = refl
+mapped_cond : {X Y : Type 0} (g : X → Y) (b : Bool) (us vs : List X) → map g (cond b us vs) ≡ cond b (map g us) (map g vs)
+mapped_cond g true us vs = refl
+mapped_cond g false us vs = refl
 
-put_as : {X : Type 0} (now : X → Feature) (keys : List SortKey) (f : X) (gs : List X) → map now (put_by (on now (feature_order keys)) f gs) ≡ put_in keys (now f) (map now gs)
+put_step : {Y : Type 0} (b c : Bool) (y : Y) (us vs ws : List Y) → b ≡ c → us ≡ vs → cond b (y ∷ us) ws ≡ cond c (y ∷ vs) ws
+put_step b c y us vs ws same more = rw (same, more) refl
+
+module _ {X Y : Type 0} (g : X → Y) (R : X → X → Ordering) (S : Y → Y → Ordering) (same : (a b : X) → R a b ≡ S (g a) (g b)) where
+  put_as : (f : X) (gs : List X) → map g (put_by R f gs) ≡ put_by S (g f) (map g gs)
+  put_as f [] = refl
+  put_as f (x ∷ xs) =
+      mapped_cond g (is_gt (R f x)) (x ∷ put_by R f xs) (f ∷ x ∷ xs)
+      ∙ put_step (is_gt (R f x)) (is_gt (S (g f) (g x))) (g x) (map g (put_by R f xs)) (put_by S (g f) (map g xs)) (g f ∷ g x ∷ map g xs) (ap is_gt (same f x)) (put_as f xs)
+
+  pub sorted_as : (xs : List X) → map g (sorted_by R xs) ≡ sorted_by S (map g xs)
+  sorted_as [] = refl
+  sorted_as (x ∷ xs) = put_as x (sorted_by R xs) ∙ ap (put_by S (g x)) (sorted_as xs)
+
+-- ---- features
+
+put_is : (keys : List SortKey) (f : Feature) (gs : List Feature) → put_by (feature_order keys) f gs ≡ put_in keys f gs
 unfolding put_in
-put_as now keys f [] = refl
-put_as now keys f (g ∷ gs) = put_as_at now (is_gt (feature_order keys (now f) (now g))) (put_by (on now (feature_order keys)) f gs) (f ∷ g ∷ gs) (put_in keys (now f) (map now gs)) (put_as now keys f gs) g
+put_is keys f [] = refl
+put_is keys f (g ∷ gs) = put_step (is_gt (feature_order keys f g)) (is_gt (feature_order keys f g)) g (put_by (feature_order keys) f gs) (put_in keys f gs) (f ∷ g ∷ gs) refl (put_is keys f gs)
 
-sorted_as : {X : Type 0} (now : X → Feature) (keys : List SortKey) (xs : List X) → map now (sorted_by (on now (feature_order keys)) xs) ≡ sorted keys (map now xs)
+sorted_in : (keys : List SortKey) (fs : List Feature) → sorted_by (feature_order keys) fs ≡ sorted keys fs
 unfolding sorted
-sorted_as now keys [] = refl
-sorted_as now keys (x ∷ xs) = put_as now keys x (sorted_by (on now (feature_order keys)) xs) ∙ ap (put_in keys (now x)) (sorted_as now keys xs)
+sorted_in keys [] = refl
+sorted_in keys (f ∷ fs) = put_is keys f (sorted_by (feature_order keys) fs) ∙ ap (put_in keys f) (sorted_in keys fs)
 
--- what a sort of references ensures
-pub sorted_is : {X : Type 0} (now : X → Feature) (keys : List SortKey) (xs ys : List X) → IsSortedBy (λ a b. is_lt (feature_order keys (now a) (now b))) ys → IsStableBy (λ a b. is_lt (feature_order keys (now a) (now b))) xs ys → map now ys ≡ sorted keys (map now xs)
-sorted_is now keys xs ys up stable =
-    ap (map now) (sort_is (on now (feature_order keys)) (on_total now (feature_total keys)) xs ys up stable) ∙ sorted_as now keys xs
+pair_same : (keys : List SortKey) (f g : Feature) → feature_order keys f g ≡ pair_order keys (pair_by keys f) (pair_by keys g)
+unfolding feature_order pair_order key_order
+pair_same [] f g = refl
+pair_same (key ∷ keys) f g = refl
+
+pub pairs_by : {X : Type 0} (now : X → Feature) (keys : List SortKey) (fs : List X) → map (λ f. pair_by keys (now f)) fs ≡ map (pair_by keys) (map now fs)
+pairs_by now keys [] = refl
+pairs_by now keys (f ∷ fs) = ap (λ l. pair_by keys (now f) ∷ l) (pairs_by now keys fs)
+
+seconds : (keys : List SortKey) (fs : List Feature) → map (λ (p : Pair). p.1) (map (pair_by keys) fs) ≡ fs
+seconds keys [] = refl
+seconds keys (f ∷ fs) = ap (λ l. f ∷ l) (seconds keys fs)
+
+features_in : (all : List Keyed) → map (λ (k : Keyed). k.feature.now) all ≡ map (λ (p : Pair). p.1) (map pair_of all)
+features_in [] = refl
+features_in (k ∷ ks) = ap (λ l. k.feature.now ∷ l) (features_in ks)
+
+-- what a sort of features beside their first values ensures
+pub keyed_sorted : (keys : List SortKey) (fs : List Feature) (xs ys : List Keyed) → map pair_of xs ≡ map (pair_by keys) fs → IsSortedBy (λ a b. is_lt (pair_order keys (pair_of a) (pair_of b))) ys → IsStableBy (λ a b. is_lt (pair_order keys (pair_of a) (pair_of b))) xs ys → map (λ (k : Keyed). k.feature.now) ys ≡ sorted keys fs
+keyed_sorted keys fs xs ys beside up stable =
+    let by_pairs : map pair_of ys ≡ map (pair_by keys) (sorted keys fs) =
+    ap (map pair_of) (sort_is (on pair_of (pair_order keys)) (on_total pair_of (pair_total keys)) xs ys up stable)
+    ∙ sorted_as pair_of (on pair_of (pair_order keys)) (pair_order keys) (λ a b. refl) xs
+    ∙ ap (sorted_by (pair_order keys)) beside
+    ∙ sym (sorted_as (pair_by keys) (feature_order keys) (pair_order keys) (pair_same keys) fs)
+    ∙ ap (map (pair_by keys)) (sorted_in keys fs) in
+    features_in ys ∙ ap (map (λ (p : Pair). p.1)) by_pairs ∙ seconds keys (sorted keys fs)

@@ -1,4 +1,5 @@
 pub mod Finding
+pub mod Keyed
 pub mod Paging
 pub mod Selecting
 pub mod Sorting

@@ -6,6 +6,7 @@
 
 mod asking;
 mod joining;
+mod keyed;
 mod looking;
 mod ordering;
 mod paging;

@@ -2,47 +2,38 @@
 
 ghost use Rattle.std.specs.Prelude.{◌≡◌};
 ghost use Rattle.std.specs.Option.{option_copied};
+ghost use Rattle.std.specs.Ordering.{nat_cmp};
 ghost use Rattle.feature_values.specs.Order.{order_of};
 ghost use Rattle.fes_filter.specs.Truth.{property_of};
-ghost use Rattle.query_core.specs.Sorting.{or_equal, or_null, kind_place, value_order, key_order, rid_order, feature_order};
+ghost use Rattle.query_core.specs.Keyed.{by_way, value_behind};
+ghost use Rattle.query_core.specs.Sorting.{or_null, kind_place, value_order, key_order, rid_order, feature_order};
 
-use feature_values::{Feature, Rid, Value, compare};
+use feature_values::{Feature, Rid, Value};
 use fes_filter::SortKey;
+use geom_core::Geometry;
 use std::cmp::Ordering;
 
-/// Where the values of a kind stand. No value counts as a null.
-fn kind_place(value: Option<&Value>) -> u8
-    ensures { result ≡ kind_place (or_null (option_copied value.entry)) }
+/// A value as it is compared: what it holds is borrowed, so that a comparison needs no other look-up.
+#[derive(Clone, Copy)]
+pub(crate) enum ValueRef<'a> {
+    Null,
+    Words(&'a str),
+    Whole(i64),
+    Truth(bool),
+    Shape(&'a Geometry),
+}
+
+/// No value counts as a null.
+fn borrowed(value: Option<&Value>) -> ValueRef<'_>
+    ensures { value_behind result ≡ or_null (option_copied value.entry) }
 {
     match value {
-        None | Some(Value::Null) => 0,
-        Some(Value::Words(_)) => 1,
-        Some(Value::Whole(_)) => 2,
-        Some(Value::Truth(_)) => 3,
-        Some(Value::Shape(_)) => 4,
+        None | Some(Value::Null) => ValueRef::Null,
+        Some(Value::Words(text)) => ValueRef::Words(text.as_str()),
+        Some(Value::Whole(number)) => ValueRef::Whole(*number),
+        Some(Value::Truth(truth)) => ValueRef::Truth(*truth),
+        Some(Value::Shape(shape)) => ValueRef::Shape(shape),
     }
-}
-
-/// How two values of one kind stand to each other; equal where they have no order.
-fn order_within_kind(a: Option<&Value>, b: Option<&Value>) -> Ordering
-    ensures { result ≡ or_equal (order_of (or_null (option_copied a.entry)) (or_null (option_copied b.entry))) }
-{
-    match (a, b) {
-        (Some(a), Some(b)) => match compare(a, b) {
-            Some(order) => order,
-            None => Ordering::Equal,
-        },
-        _ => Ordering::Equal,
-    }
-}
-
-#[tactic(auto, unfolding(crate::specs::Sorting::value_order))]
-fn value_order(a: Option<&Value>, b: Option<&Value>) -> Ordering
-    ensures { result ≡ value_order (or_null (option_copied a.entry)) (or_null (option_copied b.entry)) }
-{
-    kind_place(a)
-        .cmp(&kind_place(b))
-        .then(order_within_kind(a, b))
 }
 
 /// The value of a property, if the feature has this property.
@@ -52,16 +43,74 @@ fn property_of(feature: &Feature, property: u32) -> Option<&Value>
     feature.values.items().get(property as usize)
 }
 
-#[tactic(auto, unfolding(crate::specs::Sorting::key_order))]
-fn key_order(key: SortKey, a: &Feature, b: &Feature) -> Ordering
-    ensures { result ≡ key_order key a.now b.now }
+/// The value of a property as it is compared.
+pub(crate) fn value_at(feature: &Feature, property: u32) -> ValueRef<'_>
+    ensures { value_behind result ≡ or_null (property_of feature.now property) }
 {
-    let ascending = value_order(property_of(a, key.property), property_of(b, key.property));
-    if key.descending {
+    borrowed(property_of(feature, property))
+}
+
+/// Where the values of a kind stand.
+fn kind_place(value: &ValueRef) -> u8
+    ensures { result ≡ kind_place (value_behind value.now) }
+{
+    match value {
+        ValueRef::Null => 0,
+        ValueRef::Words(_) => 1,
+        ValueRef::Whole(_) => 2,
+        ValueRef::Truth(_) => 3,
+        ValueRef::Shape(_) => 4,
+    }
+}
+
+/// How two values of one kind stand to each other.
+fn compare(a: &ValueRef, b: &ValueRef) -> Option<Ordering>
+    ensures { result ≡ order_of (value_behind a.now) (value_behind b.now) }
+{
+    match (a, b) {
+        (ValueRef::Words(a), ValueRef::Words(b)) => Some(a.cmp(b)),
+        (ValueRef::Whole(a), ValueRef::Whole(b)) => Some(a.cmp(b)),
+        (ValueRef::Truth(a), ValueRef::Truth(b)) => Some(a.cmp(b)),
+        _ => None,
+    }
+}
+
+/// How their kinds stand to each other.
+fn kinds_order(a: &ValueRef, b: &ValueRef) -> Ordering
+    ensures { result ≡ nat_cmp (kind_place (value_behind a.now)) (kind_place (value_behind b.now)) }
+{
+    kind_place(a).cmp(&kind_place(b))
+}
+
+/// The ascending order of values. Two of one kind are the usual case, so they are compared first.
+pub(crate) fn value_order(a: &ValueRef, b: &ValueRef) -> Ordering
+    ensures { result ≡ value_order (value_behind a.now) (value_behind b.now) }
+{
+    let Some(order) = compare(a, b) else {
+        return kinds_order(a, b);
+    };
+    order
+}
+
+/// An order that ascends, turned round where it is to descend.
+pub(crate) fn by_way(descending: bool, ascending: Ordering) -> Ordering
+    ensures { result ≡ by_way descending ascending }
+{
+    if descending {
         ascending.reverse()
     } else {
         ascending
     }
+}
+
+#[tactic(auto, unfolding(crate::specs::Sorting::key_order))]
+fn key_order(key: SortKey, a: &Feature, b: &Feature) -> Ordering
+    ensures { result ≡ key_order key a.now b.now }
+{
+    by_way(
+        key.descending,
+        value_order(&value_at(a, key.property), &value_at(b, key.property)),
+    )
 }
 
 #[tactic(auto, unfolding(crate::specs::Sorting::rid_order))]

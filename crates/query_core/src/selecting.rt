@@ -3,8 +3,9 @@ ghost use Rattle.fes_filter.specs.View.{IsInOrder};
 ghost use Rattle.query_core.specs.Selecting.{is_selected, selected_ids};
 
 use crate::asking::ids_asked;
+use crate::keyed::sorted_ids;
 use crate::looking::look_up;
-use crate::sorting::{ids_of, sort_features};
+use crate::sorting::ids_of;
 use crate::walking::walk;
 use feature_values::{Feature, Rid};
 use fes_filter::{FeatureView, Query, Steps};
@@ -43,6 +44,5 @@ pub fn select<V: FeatureView, L: Ledger>(
     if keys.is_empty() {
         return ids_of(alloc, &found);
     }
-    let sorted = sort_features(keys, found)?;
-    ids_of(alloc, &sorted)
+    sorted_ids(alloc, keys, &found)
 }

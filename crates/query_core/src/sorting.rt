@@ -2,24 +2,13 @@ ghost use Rattle.std.specs.Prelude.{◌≡◌, IfOk, map};
 ghost use Rattle.query_core.specs.Selecting.{held, ids_of};
 ghost use Rattle.query_core.specs.Sorting.{sorted};
 
-use crate::ordering::feature_order;
+use crate::keyed::sorted_ids;
 use feature_values::{Feature, Rid};
 use fes_filter::{FeatureView, SortKey};
 use std::alloc::Global;
 use wfs_ends::{List, Mem};
 
-/// The same features, sorted by the keys.
-pub(crate) fn sort_features<'a>(
-    keys: &[SortKey],
-    mut features: Vec<&'a Feature>,
-) -> Mem<Vec<&'a Feature>>
-    ensures { IfOk result (λ fs. map (λ f. f.now) fs.items ≡ sorted keys.now (map (λ f. f.now) features.entry.items)) }
-{
-    features.sort_by(|a, b| feature_order(keys, *a, *b))?;
-    Ok(features)
-}
-
-/// Their identifiers.
+/// Identifiers of features.
 pub(crate) fn ids_of(alloc: Global, features: &[&Feature]) -> Mem<List<Rid>>
     ensures { IfOk result (λ ids. ids ≡ ids_of (map (λ f. f.now) features.now)) }
 {
@@ -60,6 +49,5 @@ pub fn sort_rows<V: FeatureView>(
     ensures { IfOk result (λ ids. ids ≡ ids_of (sorted sort.now (held (V.features view.now) rows))) }
 {
     let features = held(alloc, view, rows.items())?;
-    let features = sort_features(sort.items(), features)?;
-    ids_of(alloc, &features)
+    sorted_ids(alloc, sort.items(), &features)
 }
