@@ -1,8 +1,9 @@
 -- Which filters a feature type allows, and what is wrong first with one that it does not.
-use Rattle.std.specs.Prelude.{ℕ, Bool, true, false, ◌&&◌, ◌||◌, not, if◌then◌else◌, ◌==◌, ◌-◌, List, [], ◌∷◌, flat_map, Option, Some, None, Result, Ok, Err, slice_get}
+use Rattle.std.specs.Prelude.{ℕ, Bool, true, false, ◌&&◌, ◌||◌, not, if◌then◌else◌, ◌==◌, ◌-◌, List, [], ◌∷◌, flat_map, Option, Some, None, option_map, Result, Ok, Err, slice_get}
 use Rattle.std.specs.Option.{option_and_then}
 use Rattle.wfs_ends.specs.Read.{◌>>=◌, each}
 use Rattle.feature_values.specs.Fits.{is_of_kind}
+use Rattle.feature_values.specs.Ids.{property_named, without_prefix}
 use Rattle.feature_values.specs.declared.schema.ValueKind.{ValueKind}
 use Rattle.feature_values.specs.declared.schema.ValueKind.TheVariants.{Words, Whole, Truth, Point, Line, Polygon}
 use Rattle.feature_values.specs.declared.schema.Property.{Property as SchemaProperty}
@@ -25,6 +26,20 @@ Verdict = Result (Unit {0}) FilterFault
 -- what has to hold, or else the fault
 unfoldable pub wanted : Bool → FilterFault → Verdict
 wanted holds fault = if holds then Ok tt else Err fault
+
+-- ---- types and properties
+
+-- the type of a number
+abbrev pub type_in : Schema → Option ℕ → Option FeatureType
+type_in schema kind = option_and_then (λ k. slice_get schema.types k) kind
+
+abbrev pub with_kind : FeatureType → ℕ → Option (ℕ × ValueKind)
+with_kind of_type property = option_map (λ p. (property, p.kind)) (slice_get of_type.properties property)
+
+-- the property of the type with this name, whose prefix is not judged, and its kind
+abbrev pub property_in : Option FeatureType → List ℕ → Option (ℕ × ValueKind)
+property_in None name = None
+property_in (Some of_type) name = option_and_then (with_kind of_type) (property_named of_type (without_prefix name))
 
 -- ---- kinds
 
@@ -155,9 +170,6 @@ counted left verdict = if left == 0 then Err TooLarge else (verdict >>= λ _. Ok
 -- how many operators a filter may have
 abbrev pub most_operators : ℕ
 most_operators = 1_000
-
-abbrev pub type_in : Schema → Option ℕ → Option FeatureType
-type_in schema kind = option_and_then (λ k. slice_get schema.types k) kind
 
 -- the first fault of a filter for a type of a schema, or for no type, which has no properties
 unfoldable pub check_of : Schema → Option ℕ → Filter → Verdict

@@ -7,7 +7,7 @@ use crate::expr::{By, Expr};
 use crate::fault::FilterFault;
 use crate::filter::Filter;
 use crate::kinds::{
-    is_comparable, is_equality, is_shape, is_suited, is_words, kind_of, known, wanted,
+    is_comparable, is_equality, is_shape, is_suited, is_words, kind_of, known, type_in, wanted,
 };
 use feature_values::{FeatureType, Schema};
 use wfs_ends::List;
@@ -207,10 +207,6 @@ fn check_parts(
 pub fn check(filter: &Filter, kind: Option<u32>, schema: &Schema) -> Result<(), FilterFault>
     ensures { result ≡ check_of schema.now kind filter.now }
 {
-    let of_type = match kind {
-        None => None,
-        Some(kind) => schema.types.items().get(kind as usize),
-    };
-    check_from(of_type, MOST_OPERATORS, filter)?;
+    check_from(type_in(schema, kind), MOST_OPERATORS, filter)?;
     Ok(())
 }

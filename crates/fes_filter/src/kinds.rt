@@ -1,12 +1,35 @@
-//! Kinds of values, and which operators take them.
+//! Types, properties and kinds of values, and which operators take them.
 
 ghost use Rattle.std.specs.Prelude.{◌≡◌};
 ghost use Rattle.std.specs.Option.{option_copied};
-ghost use Rattle.fes_filter.specs.Check.{wanted, kind_of, is_same, is_words, is_shape, is_equality, is_comparable, known, is_suited};
+ghost use Rattle.fes_filter.specs.Check.{type_in, property_in, wanted, kind_of, is_same, is_words, is_shape, is_equality, is_comparable, known, is_suited};
 
 use crate::expr::{By, Expr};
 use crate::fault::FilterFault;
-use feature_values::{FeatureType, ValueKind, is_of_kind};
+use feature_values::{FeatureType, Schema, ValueKind, is_of_kind, without_prefix};
+
+/// The type of a number in a schema; `None` is no type.
+pub fn type_in(schema: &Schema, kind: Option<u32>) -> Option<&FeatureType>
+    ensures { option_copied result ≡ type_in schema.now kind }
+{
+    match kind {
+        None => None,
+        Some(kind) => schema.types.items().get(kind as usize),
+    }
+}
+
+/// The number of the first property of a type with this name, and its kind. The name may have a prefix, which is not
+/// judged. No type has no properties.
+pub fn property_in(of_type: Option<&FeatureType>, name: &str) -> Option<(u32, ValueKind)>
+    ensures { result ≡ property_in (option_copied of_type.entry) name.now }
+{
+    let of_type = of_type?;
+    let property = of_type.property_named(without_prefix(name))?;
+    match of_type.properties.items().get(property as usize) {
+        None => None,
+        Some(found) => Some((property, found.kind)),
+    }
+}
 
 /// What has to hold, or else the fault.
 #[tactic(auto, unfolding(crate::specs::Check::wanted))]
@@ -29,18 +52,21 @@ pub fn kind_of(of_type: Option<&FeatureType>, property: u32) -> Result<ValueKind
     }
 }
 
-fn is_same(a: ValueKind, b: ValueKind) -> bool
+/// Whether two kinds are one.
+pub fn is_same(a: ValueKind, b: ValueKind) -> bool
     ensures { result ≡ is_same a b }
 {
     a == b
 }
 
+/// Whether values of a kind are texts.
 pub fn is_words(kind: ValueKind) -> bool
     ensures { result ≡ is_words kind }
 {
     matches!(kind, ValueKind::Words)
 }
 
+/// Whether values of a kind are geometries.
 pub fn is_shape(kind: ValueKind) -> bool
     ensures { result ≡ is_shape kind }
 {
@@ -50,13 +76,15 @@ pub fn is_shape(kind: ValueKind) -> bool
     )
 }
 
+/// Whether an operator is one of the two equalities.
 pub fn is_equality(by: By) -> bool
     ensures { result ≡ is_equality by }
 {
     matches!(by, By::Equal | By::NotEqual)
 }
 
-/// Whether values of a kind are compared so.
+/// Whether values of a kind are compared so: texts and whole numbers by each operator, truth values by the two equalities
+/// alone, and geometries by none.
 pub fn is_comparable(by: By, kind: ValueKind) -> bool
     ensures { result ≡ is_comparable by kind }
 {
