@@ -16,7 +16,7 @@ use Rattle.fes_filter.specs.declared.expr.By.{By}
 use Rattle.fes_docs.specs.declared.fault.FilterDocFault.{FilterDocFault}
 use Rattle.fes_docs.specs.Names.{is_fes, local_of, text_of, named, no_more, plain, missing}
 use Rattle.fes_docs.specs.Uses.{place_of}
-use Rattle.fes_docs.specs.Sides.{Sides, property_at, suited, comparable_at, literal_as, literal_at, beside, right_from, right_of, left_from, left_of, sides_from, sides_in, sides_of}
+use Rattle.fes_docs.specs.Sides.{property_at, suited, comparable_at, literal_as, literal_at, beside}
 use Rattle.fes_docs.specs.Written.{leaf, reference, side}
 use Rattle.fes_docs.proofs.Built.{no_more_at_end, leaf_named, leaf_text, leaf_plain}
 use Rattle.fes_docs.proofs.Named.{reference_again, is_reference}

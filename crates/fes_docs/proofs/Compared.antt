@@ -22,8 +22,8 @@ use Rattle.fes_docs.specs.declared.fault.FilterDocFault.{FilterDocFault}
 use Rattle.fes_docs.specs.declared.fault.FilterDocFault.TheVariants.{Operator, Checked}
 use Rattle.doc_attributes.specs.Names.{value_at}
 use Rattle.doc_attributes.specs.Others.{is_other, first_other}
-use Rattle.fes_docs.specs.Names.{is_fes, text_of, value_of, refused, named, no_more, no_others}
-use Rattle.fes_docs.specs.Sides.{Sides, comparable_at, literal_as, literal_at, beside, right_from, right_of, left_from, left_of, sides_from, sides_in, sides_of, match_case, fold_by, fold_of, action_of, only_matches, folded, compare_of}
+use Rattle.fes_docs.specs.Names.{is_fes, text_of, value_of, refused, named, no_more, first_in, no_others}
+use Rattle.fes_docs.specs.Sides.{Sides, comparable_at, literal_as, literal_at, beside, right_of, left_of, sides_from, sides_of, match_case, fold_by, fold_of, action_of, only_matches, folded, compare_of}
 use Rattle.fes_docs.specs.Written.{element, reference, side, comparison_name, case_attributes, attribute, compare_tree}
 use Rattle.fes_docs.proofs.Built.{no_more_at_end, has_children, has_value, has_others}
 use Rattle.fes_docs.proofs.Beside.{one_of_two, named_reference, reference_stands, comparable_again, literal_written, beside_again}
@@ -68,61 +68,60 @@ module _ (parameters : Option (List (List ℕ))) (schema : Schema) (kind : Optio
   -- ---- sides
 
   abbrev SidesAgain : By → Sides → Type 0
-  SidesAgain by s = (whole : Element) → sides_in parameters of_type by whole (written s.0 ∷ written s.1 ∷ []) ≡ Ok s
+  SidesAgain by s = (whole : Element) → sides_from parameters of_type by whole (written s.0) (written s.1 ∷ []) ≡ Ok s
 
-  right_again : (by : By) (e f : Element) (rest : List Element) (p : ℕ × ValueKind) (s : Sides) → comparable_at of_type by e ≡ Ok p → right_from parameters of_type e p f rest ≡ Ok s → SidesAgain by s
-  unfolding right_from sides_from
-  right_again by e f rest p s h g =
-      let right = bind_ok (beside parameters of_type p.1 (text_of e) f) (λ r. no_more rest >>= λ _. Ok (Property p.0, r, p.1)) s g in
-      let end = bind_ok (no_more rest) (λ _. Ok (Property p.0, right.0, p.1)) s right.2 in
+  right_again : (by : By) (whole e : Element) (es : List Element) (p : ℕ × ValueKind) (s : Sides) → comparable_at of_type by e ≡ Ok p → right_of parameters of_type whole e p es ≡ Ok s → SidesAgain by s
+  unfolding right_of sides_from first_in
+  right_again by whole e es p s h g =
+      let f = bind_ok (first_in whole es) (λ f. beside parameters of_type p.1 (text_of e) f.0 >>= λ r. no_more f.1 >>= λ _. Ok (Property p.0, r, p.1)) s g in
+      let right = bind_ok (beside parameters of_type p.1 (text_of e) f.0.0) (λ r. no_more f.0.1 >>= λ _. Ok (Property p.0, r, p.1)) s f.2 in
+      let end = bind_ok (no_more f.0.1) (λ _. Ok (Property p.0, right.0, p.1)) s right.2 in
       subst (SidesAgain by) (ok_is FilterDocFault (Property p.0, right.0, p.1) s end.2) (λ whole.
       rw (
         named_reference parameters schema kind no_colon p.0,
         comparable_again parameters schema kind no_colon by e p h,
-        beside_again parameters schema kind no_colon p.1 (text_of e) (text_of (property p.0)) f right.0 right.1,
+        beside_again parameters schema kind no_colon p.1 (text_of e) (text_of (property p.0)) f.0.0 right.0 right.1,
         no_more_at_end,
       ) refl)
 
-  left_again : (by : By) (e f : Element) (rest : List Element) (place : Option ℕ) (s : Sides) → literal_at parameters e ≡ Ok place → left_from of_type by e place f rest ≡ Ok s → SidesAgain by s
-  unfolding left_from sides_from
-  left_again by e f rest place s h g =
-      let name = bind_ok (named (codes "ValueReference") f) (λ _. comparable_at of_type by f >>= λ p. literal_as p.1 (text_of f) place (text_of e) >>= λ l. no_more rest >>= λ _. Ok (l, Property p.0, p.1)) s g in
-      let p = bind_ok (comparable_at of_type by f) (λ p. literal_as p.1 (text_of f) place (text_of e) >>= λ l. no_more rest >>= λ _. Ok (l, Property p.0, p.1)) s name.2 in
-      let left = bind_ok (literal_as p.0.1 (text_of f) place (text_of e)) (λ l. no_more rest >>= λ _. Ok (l, Property p.0.0, p.0.1)) s p.2 in
-      let end = bind_ok (no_more rest) (λ _. Ok (left.0, Property p.0.0, p.0.1)) s left.2 in
-      let w = literal_written parameters schema kind no_colon p.0.1 (text_of f) e place left.0 h left.1 in
+  left_again : (by : By) (whole e : Element) (es : List Element) (place : Option ℕ) (s : Sides) → literal_at parameters e ≡ Ok place → left_of of_type by whole e place es ≡ Ok s → SidesAgain by s
+  unfolding left_of sides_from first_in
+  left_again by whole e es place s h g =
+      let f = bind_ok (first_in whole es) (λ f. named (codes "ValueReference") f.0 >>= λ _. comparable_at of_type by f.0 >>= λ p. literal_as p.1 (text_of f.0) place (text_of e) >>= λ l. no_more f.1 >>= λ _. Ok (l, Property p.0, p.1)) s g in
+      let name = bind_ok (named (codes "ValueReference") f.0.0) (λ _. comparable_at of_type by f.0.0 >>= λ p. literal_as p.1 (text_of f.0.0) place (text_of e) >>= λ l. no_more f.0.1 >>= λ _. Ok (l, Property p.0, p.1)) s f.2 in
+      let p = bind_ok (comparable_at of_type by f.0.0) (λ p. literal_as p.1 (text_of f.0.0) place (text_of e) >>= λ l. no_more f.0.1 >>= λ _. Ok (l, Property p.0, p.1)) s name.2 in
+      let left = bind_ok (literal_as p.0.1 (text_of f.0.0) place (text_of e)) (λ l. no_more f.0.1 >>= λ _. Ok (l, Property p.0.0, p.0.1)) s p.2 in
+      let end = bind_ok (no_more f.0.1) (λ _. Ok (left.0, Property p.0.0, p.0.1)) s left.2 in
+      let w = literal_written parameters schema kind no_colon p.0.1 (text_of f.0.0) e place left.0 h left.1 in
       subst (SidesAgain by) (ok_is FilterDocFault (left.0, Property p.0.0, p.0.1) s end.2) (λ whole.
       rw (
         w.no_reference,
         w.literal,
         w.at,
         reference_stands parameters schema kind no_colon p.0.0,
-        comparable_again parameters schema kind no_colon by f p.0 p.1,
+        comparable_again parameters schema kind no_colon by f.0.0 p.0 p.1,
         w.value (text_of (property p.0.0)),
         no_more_at_end,
       ) refl)
-
-  right_of_again : (by : By) (whole e : Element) (rest : List Element) (p : ℕ × ValueKind) (s : Sides) → comparable_at of_type by e ≡ Ok p → right_of parameters of_type whole e p rest ≡ Ok s → SidesAgain by s
-  right_of_again by whole e [] p s h g = absurd cc
-  right_of_again by whole e (f ∷ rest) p s h g = right_again by e f rest p s h g
-
-  left_of_again : (by : By) (whole e : Element) (rest : List Element) (place : Option ℕ) (s : Sides) → literal_at parameters e ≡ Ok place → left_of of_type by whole e place rest ≡ Ok s → SidesAgain by s
-  left_of_again by whole e [] place s h g = absurd cc
-  left_of_again by whole e (f ∷ rest) place s h g = left_again by e f rest place s h g
 
   first_again : (by : By) (whole e : Element) (rest : List Element) (s : Sides)
       → ((comparable_at of_type by e >>= λ p. right_of parameters of_type whole e p rest) ≡ Ok s) ⊎ ((literal_at parameters e >>= λ place. left_of of_type by whole e place rest) ≡ Ok s) → SidesAgain by s
   first_again by whole e rest s (inl h) =
       let p = bind_ok (comparable_at of_type by e) (λ p. right_of parameters of_type whole e p rest) s h in
-      right_of_again by whole e rest p.0 s p.1 p.2
+      right_again by whole e rest p.0 s p.1 p.2
   first_again by whole e rest s (inr h) =
       let place = bind_ok (literal_at parameters e) (λ place. left_of of_type by whole e place rest) s h in
-      left_of_again by whole e rest place.0 s place.1 place.2
+      left_again by whole e rest place.0 s place.1 place.2
 
-  sides_again : (by : By) (whole : Element) (es : List Element) (s : Sides) → sides_in parameters of_type by whole es ≡ Ok s → SidesAgain by s
+  from_again : (by : By) (whole e : Element) (rest : List Element) (s : Sides) → sides_from parameters of_type by whole e rest ≡ Ok s → SidesAgain by s
   unfolding sides_from
-  sides_again by whole [] s h = absurd cc
-  sides_again by whole (e ∷ rest) s h = first_again by whole e rest s (one_of_two (is_fes (codes "ValueReference") e) (is_fes (codes "Literal") e) _ _ _ s h)
+  from_again by whole e rest s h = first_again by whole e rest s (one_of_two (is_fes (codes "ValueReference") e) (is_fes (codes "Literal") e) _ _ _ s h)
+
+  sides_again : (by : By) (e whole : Element) (s : Sides) → (out-Element whole).children ≡ written s.0 ∷ written s.1 ∷ [] → sides_of parameters of_type by e ≡ Ok s → sides_of parameters of_type by whole ≡ Ok s
+  unfolding sides_of first_in
+  sides_again by e whole s is h =
+      let f = bind_ok (first_in e (out-Element e).children) (λ f. sides_from parameters of_type by e f.0 f.1) s h in
+      rw is (from_again by e f.0.0 f.0.1 s f.2 whole)
 
   -- ---- the whole
 
@@ -156,12 +155,12 @@ module _ (parameters : Option (List (List ℕ))) (schema : Schema) (kind : Optio
 
   pub compare_again : (by : By) (e : Element) (f : Filter) → compare_of parameters of_type by e ≡ Ok f
       → (x : Expr) × (y : Expr) × (fold : Bool) × (f ≡ Compare by x y fold) × (compare_of parameters of_type by (compare_tree parameters schema kind by x y fold) ≡ Ok f)
-  unfolding compare_of sides_of
+  unfolding compare_of
   compare_again by e f h =
-      let fold = bind_ok (fold_of by e) (λ fold. action_of e >>= λ _. only_matches e >>= λ _. sides_in parameters of_type by e (out-Element e).children >>= λ s. folded fold s.2 >>= λ _. Ok (Compare by s.0 s.1 fold)) f h in
-      let action = bind_ok (action_of e) (λ _. only_matches e >>= λ _. sides_in parameters of_type by e (out-Element e).children >>= λ s. folded fold.0 s.2 >>= λ _. Ok (Compare by s.0 s.1 fold.0)) f fold.2 in
-      let only = bind_ok (only_matches e) (λ _. sides_in parameters of_type by e (out-Element e).children >>= λ s. folded fold.0 s.2 >>= λ _. Ok (Compare by s.0 s.1 fold.0)) f action.2 in
-      let s = bind_ok (sides_in parameters of_type by e (out-Element e).children) (λ s. folded fold.0 s.2 >>= λ _. Ok (Compare by s.0 s.1 fold.0)) f only.2 in
+      let fold = bind_ok (fold_of by e) (λ fold. action_of e >>= λ _. only_matches e >>= λ _. sides_of parameters of_type by e >>= λ s. folded fold s.2 >>= λ _. Ok (Compare by s.0 s.1 fold)) f h in
+      let action = bind_ok (action_of e) (λ _. only_matches e >>= λ _. sides_of parameters of_type by e >>= λ s. folded fold.0 s.2 >>= λ _. Ok (Compare by s.0 s.1 fold.0)) f fold.2 in
+      let only = bind_ok (only_matches e) (λ _. sides_of parameters of_type by e >>= λ s. folded fold.0 s.2 >>= λ _. Ok (Compare by s.0 s.1 fold.0)) f action.2 in
+      let s = bind_ok (sides_of parameters of_type by e) (λ s. folded fold.0 s.2 >>= λ _. Ok (Compare by s.0 s.1 fold.0)) f only.2 in
       let end = bind_ok (folded fold.0 s.0.2) (λ _. Ok (Compare by s.0.0 s.0.1 fold.0)) f s.2 in
       let f_is : f ≡ Compare by s.0.0 s.0.1 fold.0 = sym (ok_is FilterDocFault (Compare by s.0.0 s.0.1 fold.0) f end.2) in
       let whole = tree by s.0.0 s.0.1 fold.0 in (
@@ -173,8 +172,7 @@ module _ (parameters : Option (List (List ℕ))) (schema : Schema) (kind : Optio
           fold_again by s.0.0 s.0.1 fold.0 e fold.1,
           action_again by s.0.0 s.0.1 fold.0,
           only_again by s.0.0 s.0.1 fold.0,
-          tree_children by s.0.0 s.0.1 fold.0,
-          sides_again by e (out-Element e).children s.0 s.1 whole,
+          sides_again by e whole s.0 (tree_children by s.0.0 s.0.1 fold.0) s.1,
           end.1,
         ) (ap Ok (sym f_is)),
       )

@@ -28,11 +28,11 @@ use Rattle.feature_values.specs.declared.schema.FeatureType.{FeatureType}
 use Rattle.feature_values.specs.declared.schema.Schema.{Schema}
 use Rattle.fes_filter.specs.Check.{type_in, is_shape}
 use Rattle.fes_filter.specs.declared.filter.Filter.{Filter}
-use Rattle.fes_filter.specs.declared.filter.Filter.TheVariants.{InBox, Meets, Apart}
+use Rattle.fes_filter.specs.declared.filter.Filter.TheVariants.{InBox}
 use Rattle.fes_docs.specs.declared.fault.FilterDocFault.{FilterDocFault}
-use Rattle.fes_docs.specs.Names.{is_fes, fes_space, named, no_more, no_others}
+use Rattle.fes_docs.specs.Names.{is_fes, fes_space, named, no_more, first_in, no_others}
 use Rattle.fes_docs.specs.Sides.{property_at, suited}
-use Rattle.fes_docs.specs.Spatial.{drawn, shape_at, envelope_alone, only_envelope, box_from, box_in, shape_alone, shape_behind, operands_from, operands_in, operands_of, meets_of, apart_of}
+use Rattle.fes_docs.specs.Spatial.{drawn, shape_at, envelope_alone, operands_of}
 use Rattle.fes_docs.specs.Spatial.{box_of as bbox_of}
 use Rattle.fes_docs.specs.Written.{attribute, parent, reference, first_name, envelope_tree, box_children, box_tree, shape_tree}
 use Rattle.fes_docs.proofs.Built.{no_more_at_end, parent_children, parent_others}
@@ -175,20 +175,17 @@ module _ (names : List (List ℕ)) (some : 0 < length names) where
 
   -- ---- BBOX
 
-  alone_is : (e : Element) (rest : List Element) (area : Bounds) → envelope_alone names e rest ≡ Ok area → IsBox area
+  alone_is : (whole : Element) (es : List Element) (area : Bounds) → envelope_alone names whole es ≡ Ok area → IsBox area
   unfolding envelope_alone
-  alone_is e rest area h =
-      let read = bind_ok (drawn (envelope_of names e)) (λ a. no_more rest >>= λ _. Ok a) area h in
-      let end = bind_ok (no_more rest) (λ _. Ok read.0) area read.2 in
-      envelope_is names e area (drawn_is (envelope_of names e) area (read.1 ∙ end.2))
+  alone_is whole es area h =
+      let f = bind_ok (first_in whole es) (λ f. drawn (envelope_of names f.0) >>= λ a. no_more f.1 >>= λ _. Ok a) area h in
+      let read = bind_ok (drawn (envelope_of names f.0.0)) (λ a. no_more f.0.1 >>= λ _. Ok a) area f.2 in
+      let end = bind_ok (no_more f.0.1) (λ _. Ok read.0) area read.2 in
+      envelope_is names f.0.0 area (drawn_is (envelope_of names f.0.0) area (read.1 ∙ end.2))
 
-  alone_again : (area : Bounds) → IsBox area → envelope_alone names (envelope_tree names area) [] ≡ Ok area
-  unfolding envelope_alone
-  alone_again area h = rw (envelope_again area h, no_more_at_end) refl
-
-  only_is : (whole : Element) (es : List Element) (area : Bounds) → only_envelope names whole es ≡ Ok area → IsBox area
-  only_is whole [] area h = absurd cc
-  only_is whole (e ∷ rest) area h = alone_is e rest area h
+  alone_again : (whole : Element) (area : Bounds) → IsBox area → envelope_alone names whole (envelope_tree names area ∷ []) ≡ Ok area
+  unfolding envelope_alone first_in
+  alone_again whole area h = rw (envelope_again area h, no_more_at_end) refl
 
 -- ---- properties of geometries
 
@@ -211,105 +208,92 @@ module _ (schema : Schema) (kind : Option ℕ) (no_colon : list_any is_colon sch
   -- ---- BBOX
 
   abbrev BoxAgain : Filter → Type 0
-  BoxAgain f = (i : Option ℕ) × (area : Bounds) × (f ≡ InBox i area) × ((whole : Element) → box_in schema.srs of_type whole (box_children schema kind i (envelope_tree schema.srs area)) ≡ Ok f)
+  BoxAgain f = (i : Option ℕ) × (area : Bounds) × (f ≡ InBox i area) × (bbox_of schema.srs of_type (box_tree schema kind i area) ≡ Ok f)
 
-  with_property : (whole e : Element) (rest : List Element) (f : Filter) → (shape_at of_type e >>= λ i. only_envelope schema.srs whole rest >>= λ area. Ok (InBox (Some i) area)) ≡ Ok f → BoxAgain f
-  unfolding box_from
+  with_property : (whole e : Element) (rest : List Element) (f : Filter) → (shape_at of_type e >>= λ i. envelope_alone schema.srs whole rest >>= λ area. Ok (InBox (Some i) area)) ≡ Ok f → BoxAgain f
+  unfolding bbox_of box_tree first_in
   with_property whole e rest f h =
-      let i = bind_ok (shape_at of_type e) (λ i. only_envelope schema.srs whole rest >>= λ area. Ok (InBox (Some i) area)) f h in
-      let area = bind_ok (only_envelope schema.srs whole rest) (λ area. Ok (InBox (Some i.0) area)) f i.2 in
-      let f_is : f ≡ InBox (Some i.0) area.0 = sym (ok_is FilterDocFault (InBox (Some i.0) area.0) f area.2) in (
+      let i = bind_ok (shape_at of_type e) (λ i. envelope_alone schema.srs whole rest >>= λ area. Ok (InBox (Some i) area)) f h in
+      let area = bind_ok (envelope_alone schema.srs whole rest) (λ area. Ok (InBox (Some i.0) area)) f i.2 in
+      let f_is : f ≡ InBox (Some i.0) area.0 = sym (ok_is FilterDocFault (InBox (Some i.0) area.0) f area.2) in
+      let children = box_children schema kind (Some i.0) (envelope_tree schema.srs area.0) in (
         Some i.0,
         area.0,
         f_is,
-        λ whole'. rw (
+        rw (
+          parent_others (codes "BBOX") children,
+          parent_children (codes "BBOX") children,
           is_reference schema kind no_colon i.0 (codes "ValueReference"),
           shape_at_again e i.0 i.1,
-          alone_again schema.srs some area.0 (only_is schema.srs some whole rest area.0 area.1),
+          alone_again schema.srs some (parent (codes "BBOX") children) area.0 (alone_is schema.srs some whole rest area.0 area.1),
         ) (ap Ok (sym f_is)),
       )
 
-  without_property : (e : Element) (rest : List Element) (f : Filter) → (envelope_alone schema.srs e rest >>= λ area. Ok (InBox None area)) ≡ Ok f → BoxAgain f
-  unfolding box_from
-  without_property e rest f h =
-      let area = bind_ok (envelope_alone schema.srs e rest) (λ area. Ok (InBox None area)) f h in
+  without_property : (whole : Element) (es : List Element) (f : Filter) → (envelope_alone schema.srs whole es >>= λ area. Ok (InBox None area)) ≡ Ok f → BoxAgain f
+  unfolding bbox_of box_tree first_in
+  without_property whole es f h =
+      let area = bind_ok (envelope_alone schema.srs whole es) (λ area. Ok (InBox None area)) f h in
       let f_is : f ≡ InBox None area.0 = sym (ok_is FilterDocFault (InBox None area.0) f area.2) in
-      (None, area.0, f_is, λ whole'. rw (no_reference schema.srs some area.0, alone_again schema.srs some area.0 (alone_is schema.srs some e rest area.0 area.1)) (ap Ok (sym f_is)))
+      let children = box_children schema kind None (envelope_tree schema.srs area.0) in (
+        None,
+        area.0,
+        f_is,
+        rw (
+          parent_others (codes "BBOX") children,
+          parent_children (codes "BBOX") children,
+          no_reference schema.srs some area.0,
+          alone_again schema.srs some (parent (codes "BBOX") children) area.0 (alone_is schema.srs some whole es area.0 area.1),
+        ) (ap Ok (sym f_is)),
+      )
 
-  box_by : (b : Bool) (whole e : Element) (rest : List Element) (f : Filter)
-      → (if b then (shape_at of_type e >>= λ i. only_envelope schema.srs whole rest >>= λ area. Ok (InBox (Some i) area)) else (envelope_alone schema.srs e rest >>= λ area. Ok (InBox None area))) ≡ Ok f → BoxAgain f
-  box_by true whole e rest f h = with_property whole e rest f h
-  box_by false whole e rest f h = without_property e rest f h
+  box_by : (b : Bool) (whole e : Element) (rest es : List Element) (f : Filter)
+      → (if b then (shape_at of_type e >>= λ i. envelope_alone schema.srs whole rest >>= λ area. Ok (InBox (Some i) area)) else (envelope_alone schema.srs whole es >>= λ area. Ok (InBox None area))) ≡ Ok f → BoxAgain f
+  box_by true whole e rest es f h = with_property whole e rest f h
+  box_by false whole e rest es f h = without_property whole es f h
 
-  box_in_again : (whole : Element) (es : List Element) (f : Filter) → box_in schema.srs of_type whole es ≡ Ok f → BoxAgain f
-  unfolding box_from
-  box_in_again whole [] f h = absurd cc
-  box_in_again whole (e ∷ rest) f h = box_by (is_fes (codes "ValueReference") e) whole e rest f h
-
-  pub box_again : (e : Element) (f : Filter) → bbox_of schema.srs of_type e ≡ Ok f
-      → (i : Option ℕ) × (area : Bounds) × (f ≡ InBox i area) × (bbox_of schema.srs of_type (box_tree schema kind i area) ≡ Ok f)
-  unfolding bbox_of box_tree
+  pub box_again : (e : Element) (f : Filter) → bbox_of schema.srs of_type e ≡ Ok f → BoxAgain f
+  unfolding bbox_of
   box_again e f h =
-      let none = bind_ok (no_others [] e) (λ _. box_in schema.srs of_type e (out-Element e).children) f h in
-      let r = box_in_again e (out-Element e).children f none.2 in
-      let children = box_children schema kind r.0 (envelope_tree schema.srs r.1) in
-      (r.0, r.1, r.2, rw (parent_others (codes "BBOX") children, parent_children (codes "BBOX") children) (r.3 (parent (codes "BBOX") children)))
+      let es = (out-Element e).children in
+      let none = bind_ok (no_others [] e) (λ _. first_in e es >>= λ a. if is_fes (codes "ValueReference") a.0 then (shape_at of_type a.0 >>= λ i. envelope_alone schema.srs e a.1 >>= λ area. Ok (InBox (Some i) area)) else (envelope_alone schema.srs e es >>= λ area. Ok (InBox None area))) f h in
+      let a = bind_ok (first_in e es) (λ a. if is_fes (codes "ValueReference") a.0 then (shape_at of_type a.0 >>= λ i. envelope_alone schema.srs e a.1 >>= λ area. Ok (InBox (Some i) area)) else (envelope_alone schema.srs e es >>= λ area. Ok (InBox None area))) f none.2 in
+      box_by (is_fes (codes "ValueReference") a.0.0) e a.0.0 a.0.1 es f a.2
 
   -- ---- Intersects and Disjoint
 
   abbrev Operands : Type 0
   Operands = ℕ × Geometry
 
-  alone_shape : (i : ℕ) (e : Element) (rest : List Element) (o : Operands) → shape_alone schema.srs i e rest ≡ Ok o → o.0 ≡ i
-  unfolding shape_alone
-  alone_shape i e rest o h =
-      let read = bind_ok (drawn (geometry_of schema.srs e)) (λ g. no_more rest >>= λ _. Ok (i, g)) o h in
-      let end = bind_ok (no_more rest) (λ _. Ok (i, read.0)) o read.2 in
-      ap (λ (x : Operands). x.0) (sym (ok_is FilterDocFault (i, read.0) o end.2))
-
-  behind_shape : (whole : Element) (i : ℕ) (es : List Element) (o : Operands) → shape_behind schema.srs whole i es ≡ Ok o → o.0 ≡ i
-  behind_shape whole i [] o h = absurd cc
-  behind_shape whole i (e ∷ rest) o h = alone_shape i e rest o h
-
-  shape_from : (whole e : Element) (rest : List Element) (o : Operands) → operands_from schema.srs of_type whole e rest ≡ Ok o → shape_at of_type (property o.0) ≡ Ok o.0
-  unfolding operands_from
-  shape_from whole e rest o h =
-      let name = bind_ok (named (codes "ValueReference") e) (λ _. shape_at of_type e >>= λ i. shape_behind schema.srs whole i rest) o h in
-      let i = bind_ok (shape_at of_type e) (λ i. shape_behind schema.srs whole i rest) o name.2 in
-      let same : o.0 ≡ i.0 = behind_shape whole i.0 rest o i.2 in
-      rw same (shape_at_again e i.0 i.1)
-
-  shape_in : (whole : Element) (es : List Element) (o : Operands) → operands_in schema.srs of_type whole es ≡ Ok o → shape_at of_type (property o.0) ≡ Ok o.0
-  shape_in whole [] o h = absurd cc
-  shape_in whole (e ∷ rest) o h = shape_from whole e rest o h
+  shape_read : (e : Element) (o : Operands) → operands_of schema.srs of_type e ≡ Ok o → shape_at of_type (property o.0) ≡ Ok o.0
+  unfolding operands_of
+  shape_read e o h =
+      let none = bind_ok (no_others [] e) (λ _. first_in e (out-Element e).children >>= λ a. named (codes "ValueReference") a.0 >>= λ _. shape_at of_type a.0 >>= λ i. first_in e a.1 >>= λ b. drawn (geometry_of schema.srs b.0) >>= λ g. no_more b.1 >>= λ _. Ok (i, g)) o h in
+      let a = bind_ok (first_in e (out-Element e).children) (λ a. named (codes "ValueReference") a.0 >>= λ _. shape_at of_type a.0 >>= λ i. first_in e a.1 >>= λ b. drawn (geometry_of schema.srs b.0) >>= λ g. no_more b.1 >>= λ _. Ok (i, g)) o none.2 in
+      let name = bind_ok (named (codes "ValueReference") a.0.0) (λ _. shape_at of_type a.0.0 >>= λ i. first_in e a.0.1 >>= λ b. drawn (geometry_of schema.srs b.0) >>= λ g. no_more b.1 >>= λ _. Ok (i, g)) o a.2 in
+      let i = bind_ok (shape_at of_type a.0.0) (λ i. first_in e a.0.1 >>= λ b. drawn (geometry_of schema.srs b.0) >>= λ g. no_more b.1 >>= λ _. Ok (i, g)) o name.2 in
+      let b = bind_ok (first_in e a.0.1) (λ b. drawn (geometry_of schema.srs b.0) >>= λ g. no_more b.1 >>= λ _. Ok (i.0, g)) o i.2 in
+      let g = bind_ok (drawn (geometry_of schema.srs b.0.0)) (λ g. no_more b.0.1 >>= λ _. Ok (i.0, g)) o b.2 in
+      let end = bind_ok (no_more b.0.1) (λ _. Ok (i.0, g.0)) o g.2 in
+      let same : o.0 ≡ i.0 = ap (λ (x : Operands). x.0) (sym (ok_is FilterDocFault (i.0, g.0) o end.2)) in
+      rw same (shape_at_again a.0.0 i.0 i.1)
 
   operands_again : (local : List ℕ) (e : Element) (o : Operands) → IsGeometry o.1 → operands_of schema.srs of_type e ≡ Ok o → operands_of schema.srs of_type (shape_tree schema kind local o.0 o.1) ≡ Ok o
-  unfolding operands_of shape_tree operands_from shape_alone
+  unfolding operands_of shape_tree first_in
   operands_again local e o g h =
-      let none = bind_ok (no_others [] e) (λ _. operands_in schema.srs of_type e (out-Element e).children) o h in
-      let at = shape_in e (out-Element e).children o none.2 in
       let children = property o.0 ∷ tree_of o.1 (codes "g") (first_name schema.srs) ∷ [] in
       rw (
         parent_others local children,
         parent_children local children,
         reference_stands None schema kind no_colon o.0,
-        at,
+        shape_read e o h,
         reads_back o.1 (codes "g") (first_name schema.srs) schema.srs g (first_among schema.srs some),
         no_more_at_end,
       ) refl
 
-  pub meets_again : (e : Element) (f : Filter) → meets_of schema.srs of_type e ≡ Ok f
-      → (i : ℕ) × (g : Geometry) × (f ≡ Meets i g) × (IsGeometry g → meets_of schema.srs of_type (shape_tree schema kind (codes "Intersects") i g) ≡ Ok f)
-  unfolding meets_of
-  meets_again e f h =
-      let o = bind_ok (operands_of schema.srs of_type e) (λ o. Ok (Meets o.0 o.1)) f h in
-      let f_is : f ≡ Meets o.0.0 o.0.1 = sym (ok_is FilterDocFault (Meets o.0.0 o.0.1) f o.2) in
-      (o.0.0, o.0.1, f_is, λ g. rw (operands_again (codes "Intersects") e o.0 g o.1) (ap Ok (sym f_is)))
-
-  pub apart_again : (e : Element) (f : Filter) → apart_of schema.srs of_type e ≡ Ok f
-      → (i : ℕ) × (g : Geometry) × (f ≡ Apart i g) × (IsGeometry g → apart_of schema.srs of_type (shape_tree schema kind (codes "Disjoint") i g) ≡ Ok f)
-  unfolding apart_of
-  apart_again e f h =
-      let o = bind_ok (operands_of schema.srs of_type e) (λ o. Ok (Apart o.0 o.1)) f h in
-      let f_is : f ≡ Apart o.0.0 o.0.1 = sym (ok_is FilterDocFault (Apart o.0.0 o.0.1) f o.2) in
-      (o.0.0, o.0.1, f_is, λ g. rw (operands_again (codes "Disjoint") e o.0 g o.1) (ap Ok (sym f_is)))
+  -- a filter of two operands, in an element of this name
+  pub drawn_again : (make : ℕ → Geometry → Filter) (local : List ℕ) (e : Element) (f : Filter) → (operands_of schema.srs of_type e >>= λ o. Ok (make o.0 o.1)) ≡ Ok f
+      → (i : ℕ) × (g : Geometry) × (f ≡ make i g) × (IsGeometry g → (operands_of schema.srs of_type (shape_tree schema kind local i g) >>= λ o. Ok (make o.0 o.1)) ≡ Ok f)
+  drawn_again make local e f h =
+      let o = bind_ok (operands_of schema.srs of_type e) (λ o. Ok (make o.0 o.1)) f h in
+      let f_is : f ≡ make o.0.0 o.0.1 = sym (ok_is FilterDocFault (make o.0.0 o.0.1) f o.2) in
+      (o.0.0, o.0.1, f_is, λ g. rw (operands_again local e o.0 g o.1) (ap Ok (sym f_is)))

@@ -11,6 +11,5 @@ pub mod Patterns
 pub mod Places
 pub mod Ranges
 pub mod Readings
-pub mod Steps
 pub mod Values
 pub mod Whole

@@ -25,9 +25,9 @@ use Rattle.fes_docs.specs.declared.like.Marks.{Marks}
 use Rattle.fes_docs.specs.declared.fault.FilterDocFault.{FilterDocFault}
 use Rattle.doc_attributes.specs.Names.{value_at}
 use Rattle.doc_attributes.specs.Others.{is_other, first_other}
-use Rattle.fes_docs.specs.Names.{text_of, value_of, refused, named, no_more, no_others, plain}
+use Rattle.fes_docs.specs.Names.{text_of, value_of, refused, named, no_more, first_in, no_others, plain}
 use Rattle.fes_docs.specs.Sides.{property_at, suited}
-use Rattle.fes_docs.specs.Like.{bad_marks, one_of, mark_in, mark_of, marks_of, only_marks, next_part, pattern_of, pattern_from, pattern_behind, like_from, like_in, like_of}
+use Rattle.fes_docs.specs.Like.{bad_marks, one_of, mark_in, mark_of, marks_of, only_marks, next_part, pattern_of, pattern_behind, like_of}
 use Rattle.fes_docs.specs.Written.{attribute, reference, leaf, part_text, mark_attributes, like_tree}
 use Rattle.fes_docs.specs.RoundTrip.{part_characters}
 use Rattle.fes_docs.proofs.Built.{no_more_at_end, has_children, has_value, has_others, leaf_named, leaf_text, leaf_plain}
@@ -162,12 +162,12 @@ module _ (schema : Schema) (kind : Option ℕ) (no_colon : list_any is_colon sch
   unfolding named
   literal_named = rw (leaf_named (codes "Literal") (flat_map part_text parts) (codes "Literal")) refl
 
-  behind_again : All IsScalar (flat_map part_characters parts) → pattern_from marks i (leaf (codes "Literal") (flat_map part_text parts)) [] ≡ Ok (Like i parts)
-  unfolding pattern_from
-  behind_again h = rw (literal_named, leaf_plain (codes "Literal") (flat_map part_text parts), leaf_text (codes "Literal") (flat_map part_text parts), pattern_again parts h, no_more_at_end) refl
+  behind_again : (whole : Element) → All IsScalar (flat_map part_characters parts) → pattern_behind marks i whole (leaf (codes "Literal") (flat_map part_text parts) ∷ []) ≡ Ok (Like i parts)
+  unfolding pattern_behind first_in
+  behind_again whole h = rw (literal_named, leaf_plain (codes "Literal") (flat_map part_text parts), leaf_text (codes "Literal") (flat_map part_text parts), pattern_again parts h, no_more_at_end) refl
 
   like_written : (k : ValueKind) (e : Element) → property_at (type_in schema kind) e ≡ Ok (i, k) → is_words k ≡ true → All IsScalar (flat_map part_characters parts) → like_of (type_in schema kind) tree ≡ Ok (Like i parts)
-  unfolding like_of like_from
+  unfolding like_of first_in
   like_written k e at words h = rw (
     marks_again,
     only_again,
@@ -175,18 +175,18 @@ module _ (schema : Schema) (kind : Option ℕ) (no_colon : list_any is_colon sch
     reference_stands None schema kind no_colon i,
     reference_again schema kind no_colon e (i, k) at,
     suits (is_words k) (reference schema kind i) words,
-  ) (behind_again h)
+  ) (behind_again tree h)
 
 -- ---- the operator
 
-pattern_is : (ms : Marks) (whole : Element) (i : ℕ) (es : List Element) (f : Filter) → pattern_behind ms whole i es ≡ Ok f → (parts : List LikePart) × (f ≡ Like i parts)
-unfolding pattern_from
-pattern_is ms whole i [] f h = absurd cc
-pattern_is ms whole i (e ∷ rest) f h =
-    let is = bind_ok (named (codes "Literal") e) (λ _. plain e >>= λ _. pattern_of ms (text_of e) >>= λ ps. no_more rest >>= λ _. Ok (Like i ps)) f h in
-    let alone = bind_ok (plain e) (λ _. pattern_of ms (text_of e) >>= λ ps. no_more rest >>= λ _. Ok (Like i ps)) f is.2 in
-    let ps = bind_ok (pattern_of ms (text_of e)) (λ ps. no_more rest >>= λ _. Ok (Like i ps)) f alone.2 in
-    let end = bind_ok (no_more rest) (λ _. Ok (Like i ps.0)) f ps.2 in
+pattern_is : (ms : Marks) (whole : Element) (i : ℕ) (es : List Element) (f : Filter) → pattern_behind ms i whole es ≡ Ok f → (parts : List LikePart) × (f ≡ Like i parts)
+unfolding pattern_behind
+pattern_is ms whole i es f h =
+    let a = bind_ok (first_in whole es) (λ a. named (codes "Literal") a.0 >>= λ _. plain a.0 >>= λ _. pattern_of ms (text_of a.0) >>= λ ps. no_more a.1 >>= λ _. Ok (Like i ps)) f h in
+    let is = bind_ok (named (codes "Literal") a.0.0) (λ _. plain a.0.0 >>= λ _. pattern_of ms (text_of a.0.0) >>= λ ps. no_more a.0.1 >>= λ _. Ok (Like i ps)) f a.2 in
+    let alone = bind_ok (plain a.0.0) (λ _. pattern_of ms (text_of a.0.0) >>= λ ps. no_more a.0.1 >>= λ _. Ok (Like i ps)) f is.2 in
+    let ps = bind_ok (pattern_of ms (text_of a.0.0)) (λ ps. no_more a.0.1 >>= λ _. Ok (Like i ps)) f alone.2 in
+    let end = bind_ok (no_more a.0.1) (λ _. Ok (Like i ps.0)) f ps.2 in
     (ps.0, sym (ok_is FilterDocFault (Like i ps.0) f end.2))
 
 pub record IsLike (schema : Schema) (kind : Option ℕ) (f : Filter) : Type 0 where
@@ -202,22 +202,17 @@ module _ (schema : Schema) (kind : Option ℕ) (no_colon : list_any is_colon sch
   abbrev of_type : Option FeatureType
   of_type = type_in schema kind
 
-  like_in_is : (ms : Marks) (whole : Element) (es : List Element) (f : Filter) → like_in of_type ms whole es ≡ Ok f → IsLike schema kind f
-  unfolding like_from
-  like_in_is ms whole [] f h = absurd cc
-  like_in_is ms whole (e ∷ rest) f h =
-      let is = bind_ok (named (codes "ValueReference") e) (λ _. property_at of_type e >>= λ p. suited (is_words p.1) e >>= λ _. pattern_behind ms whole p.0 rest) f h in
-      let p = bind_ok (property_at of_type e) (λ p. suited (is_words p.1) e >>= λ _. pattern_behind ms whole p.0 rest) f is.2 in
-      let suit = bind_ok (suited (is_words p.0.1) e) (λ _. pattern_behind ms whole p.0.0 rest) f p.2 in
-      let parts = pattern_is ms whole p.0.0 rest f suit.2 in
-      record { property = p.0.0; of_kind = p.0.1; named_by = e; found = p.1; words = suited_is (is_words p.0.1) e suit.0 suit.1; parts = parts.0; is = parts.1 }
-
   like_is : (e : Element) (f : Filter) → like_of of_type e ≡ Ok f → IsLike schema kind f
   unfolding like_of
   like_is e f h =
-      let ms = bind_ok (marks_of e) (λ ms. only_marks e >>= λ _. like_in of_type ms e (out-Element e).children) f h in
-      let only = bind_ok (only_marks e) (λ _. like_in of_type ms.0 e (out-Element e).children) f ms.2 in
-      like_in_is ms.0 e (out-Element e).children f only.2
+      let ms = bind_ok (marks_of e) (λ ms. only_marks e >>= λ _. first_in e (out-Element e).children >>= λ a. named (codes "ValueReference") a.0 >>= λ _. property_at of_type a.0 >>= λ p. suited (is_words p.1) a.0 >>= λ _. pattern_behind ms p.0 e a.1) f h in
+      let only = bind_ok (only_marks e) (λ _. first_in e (out-Element e).children >>= λ a. named (codes "ValueReference") a.0 >>= λ _. property_at of_type a.0 >>= λ p. suited (is_words p.1) a.0 >>= λ _. pattern_behind ms.0 p.0 e a.1) f ms.2 in
+      let a = bind_ok (first_in e (out-Element e).children) (λ a. named (codes "ValueReference") a.0 >>= λ _. property_at of_type a.0 >>= λ p. suited (is_words p.1) a.0 >>= λ _. pattern_behind ms.0 p.0 e a.1) f only.2 in
+      let is = bind_ok (named (codes "ValueReference") a.0.0) (λ _. property_at of_type a.0.0 >>= λ p. suited (is_words p.1) a.0.0 >>= λ _. pattern_behind ms.0 p.0 e a.0.1) f a.2 in
+      let p = bind_ok (property_at of_type a.0.0) (λ p. suited (is_words p.1) a.0.0 >>= λ _. pattern_behind ms.0 p.0 e a.0.1) f is.2 in
+      let suit = bind_ok (suited (is_words p.0.1) a.0.0) (λ _. pattern_behind ms.0 p.0.0 e a.0.1) f p.2 in
+      let parts = pattern_is ms.0 e p.0.0 a.0.1 f suit.2 in
+      record { property = p.0.0; of_kind = p.0.1; named_by = a.0.0; found = p.1; words = suited_is (is_words p.0.1) a.0.0 suit.0 suit.1; parts = parts.0; is = parts.1 }
 
   pub like_again : (e : Element) (f : Filter) → like_of of_type e ≡ Ok f
       → (i : ℕ) × (parts : List LikePart) × (f ≡ Like i parts) × (All IsScalar (flat_map part_characters parts) → like_of of_type (like_tree schema kind i parts) ≡ Ok f)

@@ -15,10 +15,10 @@ use Rattle.feature_values.specs.declared.schema.ValueKind.{ValueKind}
 use Rattle.feature_values.specs.declared.schema.Property.{Property}
 use Rattle.feature_values.specs.declared.schema.FeatureType.{FeatureType}
 use Rattle.feature_values.specs.declared.schema.Schema.{Schema}
-use Rattle.fes_filter.specs.Check.{type_in}
+use Rattle.fes_filter.specs.Check.{type_in, with_kind, property_in}
 use Rattle.fes_docs.specs.declared.fault.FilterDocFault.{FilterDocFault}
 use Rattle.fes_docs.specs.Names.{is_fes, text_of, plain}
-use Rattle.fes_docs.specs.Sides.{with_kind, property_of, or_unknown, property_at}
+use Rattle.fes_docs.specs.Sides.{or_unknown, property_at}
 use Rattle.fes_docs.specs.Written.{name_if, property_name, leaf, reference}
 use Rattle.fes_docs.proofs.Built.{leaf_named, leaf_text, leaf_plain}
 
@@ -113,7 +113,7 @@ unfolding property_named
 property_is of_type name i e = first_named (λ p. p.name) name i of_type.properties e
 
 property_again : (of_type : Option FeatureType) (prefix name : List ℕ) (i : ℕ) (k : ValueKind) → list_any is_colon prefix ≡ false
-    → property_of of_type name ≡ Some (i, k) → property_of of_type (prefixed prefix (property_name of_type i)) ≡ Some (i, k)
+    → property_in of_type name ≡ Some (i, k) → property_in of_type (prefixed prefix (property_name of_type i)) ≡ Some (i, k)
 property_again None prefix name i k h e = absurd cc
 property_again (Some of_type) prefix name i k h e =
     let read = and_then_some (with_kind of_type) (property_named of_type (without_prefix name)) (i, k) e in
@@ -134,10 +134,10 @@ module _ (schema : Schema) (kind : Option ℕ) (no_colon : list_any is_colon sch
   unfolding property_at reference
   reference_again e p h =
       let of_type = type_in schema kind in
-      let read = bind_ok (plain e) (λ _. or_unknown (text_of e) (property_of of_type (text_of e))) p h in
-      let found : property_of of_type (text_of e) ≡ Some p = unknown_is (text_of e) _ p read.2 in
+      let read = bind_ok (plain e) (λ _. or_unknown (text_of e) (property_in of_type (text_of e))) p h in
+      let found : property_in of_type (text_of e) ≡ Some p = unknown_is (text_of e) _ p read.2 in
       let name = prefixed schema.prefix (property_name of_type p.0) in
-      let again : property_of of_type name ≡ Some p = property_again of_type schema.prefix (text_of e) p.0 p.1 no_colon found in
+      let again : property_in of_type name ≡ Some p = property_again of_type schema.prefix (text_of e) p.0 p.1 no_colon found in
       rw (leaf_plain (codes "ValueReference") name, leaf_text (codes "ValueReference") name)
       (ap (or_unknown name) again)
 

@@ -22,7 +22,7 @@ use Rattle.fes_docs.specs.declared.operator.Predicate.{Predicate}
 use Rattle.fes_docs.specs.declared.operator.Predicate.TheVariants as Test
 use Rattle.fes_docs.specs.declared.operator.Operator.{Operator}
 use Rattle.fes_docs.specs.declared.operator.Operator.TheVariants as Operator
-use Rattle.fes_docs.specs.Names.{fes_space, is_fes, local_of, named, no_others, no_more}
+use Rattle.fes_docs.specs.Names.{fes_space, is_fes, local_of, named, no_others, no_more, first_in}
 use Rattle.fes_docs.specs.Operators.{operator_in}
 use Rattle.fes_docs.specs.Filters.{Reading, counted, only_id, predicate_of, next_operator, several, one, operation, operator_by, operator_of, ids_in, content_from, content_of, filter_of}
 use Rattle.fes_docs.specs.Ids.{id_at, next_id}
@@ -34,7 +34,7 @@ use Rattle.fes_docs.proofs.Named.{same_text}
 use Rattle.fes_docs.proofs.Likes.{like_again}
 use Rattle.fes_docs.proofs.Compared.{compare_again}
 use Rattle.fes_docs.proofs.Ranges.{between_again, null_again}
-use Rattle.fes_docs.proofs.Drawn.{box_again, meets_again, apart_again}
+use Rattle.fes_docs.proofs.Drawn.{box_again, drawn_again}
 use Rattle.fes_docs.proofs.Identifiers.{id_again, id_named, ids_again}
 use Rattle.fes_docs.proofs.Parts.{through, all_through, AreFilters, both_parts, either_parts, not_part, like_characters, meets_shape, apart_shape, fes, Names, compare_named, and_named, or_named, not_named, like_named, null_named, between_named, box_named, meets_named, apart_named, id_named_so}
 
@@ -131,14 +131,14 @@ module _ (parameters : Option (List (List ℕ))) (schema : Schema) (kind : Optio
       (ap tree (sym (rolls-InBox a.0 a.1)) ∙ fold-roll-Filter Element (operator_step parameters schema kind) (Filter-F.InBox a.0 a.1))
       (has_name _ _ _ _) box_named (a.3 ∙ ap Ok a.2) (content_is (Filter-F.InBox a.0 a.1) g (rolls-InBox a.0 a.1)))
   predicate_again Test.Intersects e f h is =
-      let a = meets_again schema kind can.prefix can.srs e f h in
+      let a = drawn_again schema kind can.prefix can.srs Meets (codes "Intersects") e f h in
       let g = Meets a.0 a.1 in
       let shape = meets_shape a.0 a.1 (subst IsFilter a.2 is) in
       subst PredicateAgain (sym a.2) (given g (shape_tree schema kind (codes "Intersects") a.0 a.1) (codes "Intersects") Test.Intersects
       (ap tree (sym (rolls-Meets a.0 a.1)) ∙ fold-roll-Filter Element (operator_step parameters schema kind) (Filter-F.Meets a.0 a.1))
       (has_name _ _ _ _) meets_named (a.3 shape ∙ ap Ok a.2) (content_is (Filter-F.Meets a.0 a.1) g (rolls-Meets a.0 a.1)))
   predicate_again Test.Disjoint e f h is =
-      let a = apart_again schema kind can.prefix can.srs e f h in
+      let a = drawn_again schema kind can.prefix can.srs Apart (codes "Disjoint") e f h in
       let g = Apart a.0 a.1 in
       let shape = apart_shape a.0 a.1 (subst IsFilter a.2 is) in
       subst PredicateAgain (sym a.2) (given g (shape_tree schema kind (codes "Disjoint") a.0 a.1) (codes "Disjoint") Test.Disjoint
@@ -308,7 +308,7 @@ module _ (parameters : Option (List (List ℕ))) (schema : Schema) (kind : Optio
       rw (is, id.1) (id.2 ∙ ap Ok f_is)
 
   content_one : (whole t : Element) (m : ℕ) (f : Filter) → read t most_operators ≡ Ok (f, m) → content whole (t ∷ []) ≡ Ok f
-  unfolding content_from
+  unfolding content_from first_in
   content_one whole t m f h = by (is_fes (codes "ResourceId") t) refl
     where
       by : (b : Bool) → is_fes (codes "ResourceId") t ≡ b → (if b then ids_in parameters schema (t ∷ []) else content_from parameters schema kind t []) ≡ Ok f
@@ -316,6 +316,7 @@ module _ (parameters : Option (List (List ℕ))) (schema : Schema) (kind : Optio
       by false is = rw (h, no_more_at_end) refl
 
   ids_content : (whole : Element) (ids : List IdRef) → 0 < length ids → each (next_id parameters schema) [] (map (id_tree parameters schema) ids) ≡ Ok ids → content whole (map (id_tree parameters schema) ids) ≡ Ok (Ids ids)
+  unfolding first_in
   ids_content whole [] some h = absurd (omega (arith, some))
   ids_content whole (id ∷ ids) some h = rw (id_named parameters schema id) (ap (λ (r : Result (List IdRef) FilterDocFault). r >>= λ ids. Ok (Ids ids)) h)
 
@@ -339,6 +340,7 @@ module _ (parameters : Option (List (List ℕ))) (schema : Schema) (kind : Optio
       ap (content whole) again.stands ∙ content_one whole (tree f) found.0.1 f again.reads
 
   content_back : (whole other : Element) (es : List Element) (f : Filter) → content whole es ≡ Ok f → IsFilter f → content other (content_by parameters schema (tree f) (out-Filter f)) ≡ Ok f
+  unfolding first_in
   content_back whole other [] f h is = absurd cc
   content_back whole other (e ∷ rest) f h is = by (is_fes (codes "ResourceId") e) h
     where

@@ -10,12 +10,12 @@ use Rattle.feature_values.specs.declared.schema.Schema.{Schema}
 use Rattle.fes_filter.specs.Check.{type_in, most_operators}
 use Rattle.fes_filter.specs.declared.ids.IdRef.{IdRef}
 use Rattle.fes_filter.specs.declared.filter.Filter.{Filter}
-use Rattle.fes_filter.specs.declared.filter.Filter.TheVariants.{Both, Either, Not, Ids}
+use Rattle.fes_filter.specs.declared.filter.Filter.TheVariants.{Both, Either, Not, Ids, Meets, Apart}
 use Rattle.fes_filter.specs.declared.fault.FilterFault.TheVariants.{TooLarge}
-use Rattle.fes_docs.specs.Names.{is_fes, local_of, no_others, no_more, missing}
+use Rattle.fes_docs.specs.Names.{is_fes, local_of, no_others, no_more, first_in}
 use Rattle.fes_docs.specs.Sides.{compare_of, between_of, null_of}
 use Rattle.fes_docs.specs.Like.{like_of}
-use Rattle.fes_docs.specs.Spatial.{box_of, meets_of, apart_of}
+use Rattle.fes_docs.specs.Spatial.{box_of, operands_of}
 use Rattle.fes_docs.specs.Ids.{id_at, next_id}
 use Rattle.fes_docs.specs.Operators.{operator_in}
 use Rattle.fes_docs.specs.declared.operator.Predicate.{Predicate}
@@ -44,8 +44,8 @@ predicate_of parameters schema kind e Test.Like = like_of (type_in schema kind) 
 predicate_of parameters schema kind e Test.Null = null_of (type_in schema kind) e
 predicate_of parameters schema kind e Test.Between = between_of parameters (type_in schema kind) e
 predicate_of parameters schema kind e Test.Bbox = box_of schema.srs (type_in schema kind) e
-predicate_of parameters schema kind e Test.Intersects = meets_of schema.srs (type_in schema kind) e
-predicate_of parameters schema kind e Test.Disjoint = apart_of schema.srs (type_in schema kind) e
+predicate_of parameters schema kind e Test.Intersects = operands_of schema.srs (type_in schema kind) e >>= λ o. Ok (Meets o.0 o.1)
+predicate_of parameters schema kind e Test.Disjoint = operands_of schema.srs (type_in schema kind) e >>= λ o. Ok (Apart o.0 o.1)
 predicate_of parameters schema kind e Test.ResourceId = only_id parameters schema e
 
 -- ---- operators of operators
@@ -112,11 +112,9 @@ content_from parameters schema kind e rest = do
   Ok found.0
 
 abbrev pub content_of : Option (List (List ℕ)) → Schema → Option ℕ → Element → List Element → Result Filter FilterDocFault
-content_of parameters schema kind whole [] = Err (missing whole)
-content_of parameters schema kind whole (e ∷ rest) =
-    if is_fes (codes "ResourceId") e
-    then ids_in parameters schema (e ∷ rest)
-    else content_from parameters schema kind e rest
+content_of parameters schema kind whole es = do
+  f ← first_in whole es
+  if is_fes (codes "ResourceId") f.0 then ids_in parameters schema es else content_from parameters schema kind f.0 f.1
 
 -- The filter of an element for a type of a schema, or for no type: one operator, or one ResourceId or more, of which one
 -- is enough. Where parameters are listed, the places of those that stand for a literal or an identifier are read.

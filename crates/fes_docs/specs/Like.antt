@@ -11,7 +11,7 @@ use Rattle.fes_filter.specs.declared.pattern.LikePart.TheVariants.{Exactly, One,
 use Rattle.fes_filter.specs.declared.filter.Filter.{Filter}
 use Rattle.fes_filter.specs.declared.filter.Filter.TheVariants.{Like}
 use Rattle.fes_filter.specs.declared.fault.FilterFault.TheVariants.{Choice}
-use Rattle.fes_docs.specs.Names.{text_of, value_of, no_others, named, no_more, plain, missing}
+use Rattle.fes_docs.specs.Names.{text_of, value_of, no_others, named, no_more, first_in, plain, missing}
 use Rattle.fes_docs.specs.Sides.{property_at, suited}
 use Rattle.fes_docs.specs.declared.like.Marks.{Marks}
 use Rattle.fes_docs.specs.declared.fault.FilterDocFault.{FilterDocFault}
@@ -65,32 +65,23 @@ pattern_of marks text = let found = fold (next_part marks) ([], false) (chars te
 
 -- ---- the operator
 
-unfoldable pub pattern_from : Marks → ℕ → Element → List Element → Result Filter FilterDocFault
-pattern_from marks property e rest = do
-  _ ← named (codes "Literal") e
-  _ ← plain e
-  pattern ← pattern_of marks (text_of e)
-  _ ← no_more rest
+-- a Literal with a pattern, behind a property
+unfoldable pub pattern_behind : Marks → ℕ → Element → List Element → Result Filter FilterDocFault
+pattern_behind marks property whole es = do
+  f ← first_in whole es
+  _ ← named (codes "Literal") f.0
+  _ ← plain f.0
+  pattern ← pattern_of marks (text_of f.0)
+  _ ← no_more f.1
   Ok (Like property pattern)
-
-abbrev pub pattern_behind : Marks → Element → ℕ → List Element → Result Filter FilterDocFault
-pattern_behind marks whole property [] = Err (missing whole)
-pattern_behind marks whole property (e ∷ rest) = pattern_from marks property e rest
-
-unfoldable pub like_from : Option FeatureType → Marks → Element → Element → List Element → Result Filter FilterDocFault
-like_from of_type marks whole e rest = do
-  _ ← named (codes "ValueReference") e
-  p ← property_at of_type e
-  _ ← suited (is_words p.1) e
-  pattern_behind marks whole p.0 rest
-
-abbrev pub like_in : Option FeatureType → Marks → Element → List Element → Result Filter FilterDocFault
-like_in of_type marks whole [] = Err (missing whole)
-like_in of_type marks whole (e ∷ rest) = like_from of_type marks whole e rest
 
 -- a property of texts, and then a pattern
 unfoldable pub like_of : Option FeatureType → Element → Result Filter FilterDocFault
 like_of of_type e = do
   marks ← marks_of e
   _ ← only_marks e
-  like_in of_type marks e (out-Element e).children
+  f ← first_in e (out-Element e).children
+  _ ← named (codes "ValueReference") f.0
+  p ← property_at of_type f.0
+  _ ← suited (is_words p.1) f.0
+  pattern_behind marks p.0 e f.1

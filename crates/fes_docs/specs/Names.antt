@@ -45,6 +45,10 @@ no_others listed e = refused (first_other listed (out-Element e).attributes)
 
 -- ---- children
 
+-- something is missing in an element
+abbrev pub missing : Element → FilterDocFault
+missing e = Shape (local_of e)
+
 -- an element of FES of this name stands where only that is allowed
 unfoldable pub named : List ℕ → Element → Result (Unit {0}) FilterDocFault
 named local e = if is_fes local e then Ok tt else Err (Shape (local_of e))
@@ -58,15 +62,16 @@ no_more (e ∷ es) = Err (Shape (local_of e))
 abbrev pub and_no_more : {A : Type 0} → A → List Element → Result A FilterDocFault
 and_no_more found rest = no_more rest >>= λ _. Ok found
 
+-- the first of the elements that stand in an element, and those behind it; one has to be there
+unfoldable pub first_in : Element → List Element → Result (Element × List Element) FilterDocFault
+first_in whole [] = Err (missing whole)
+first_in whole (e ∷ es) = Ok (e, es)
+
 -- an element of text alone, without attributes
 unfoldable pub plain : Element → Result (Unit {0}) FilterDocFault
 plain e = do
   _ ← no_others [] e
   no_more (out-Element e).children
-
--- something is missing in an element
-abbrev pub missing : Element → FilterDocFault
-missing e = Shape (local_of e)
 
 -- ---- what a fault is in a service's answers
 

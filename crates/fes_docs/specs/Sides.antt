@@ -1,17 +1,15 @@
 -- Properties and literals in a filter: the sides of comparisons, and the bounds of ranges (FES 2.0, OGC 09-026r2,
 -- sections 7.4, 7.5 and 7.7).
-use Rattle.std.specs.Prelude.{ℕ, Bool, true, false, ◌&&◌, not, if◌then◌else◌, List, [], ◌∷◌, codes, Option, Some, None, option_map, slice_get, Result, Ok, Err}
-use Rattle.std.specs.Option.{option_and_then}
+use Rattle.std.specs.Prelude.{ℕ, Bool, true, false, ◌&&◌, not, if◌then◌else◌, List, [], ◌∷◌, codes, Option, Some, None, Result, Ok, Err}
 use Rattle.std.specs.Str.{bytes_eq}
 use Rattle.wfs_ends.specs.Read.{◌>>=◌}
 use Rattle.doc_tree.specs.declared.tree.Element.{Element, out-Element}
-use Rattle.feature_values.specs.Ids.{property_named, without_prefix}
 use Rattle.feature_values.specs.Reads.{read_as}
 use Rattle.feature_values.specs.declared.schema.ValueKind.{ValueKind}
 use Rattle.feature_values.specs.declared.schema.FeatureType.{FeatureType}
 use Rattle.feature_values.specs.declared.value.Value.{Value}
 use Rattle.feature_values.specs.declared.fault.ValueFault.{ValueFault}
-use Rattle.fes_filter.specs.Check.{is_same, is_words, is_equality, is_comparable}
+use Rattle.fes_filter.specs.Check.{property_in, is_same, is_words, is_equality, is_comparable}
 use Rattle.fes_filter.specs.declared.expr.Expr.{Expr}
 use Rattle.fes_filter.specs.declared.expr.Expr.TheVariants.{Property, Literal, Parameter}
 use Rattle.fes_filter.specs.declared.expr.By.{By}
@@ -19,20 +17,12 @@ use Rattle.fes_filter.specs.declared.expr.By.TheVariants.{Less}
 use Rattle.fes_filter.specs.declared.filter.Filter.{Filter}
 use Rattle.fes_filter.specs.declared.filter.Filter.TheVariants.{Compare, Between, IsNull}
 use Rattle.fes_filter.specs.declared.fault.FilterFault.TheVariants.{Unknown, Types, Choice}
-use Rattle.fes_docs.specs.Names.{is_fes, local_of, text_of, value_of, no_others, named, no_more, plain, missing}
+use Rattle.fes_docs.specs.Names.{is_fes, local_of, text_of, value_of, no_others, named, no_more, first_in, plain}
 use Rattle.fes_docs.specs.Uses.{place_of}
 use Rattle.fes_docs.specs.declared.fault.FilterDocFault.{FilterDocFault}
 use Rattle.fes_docs.specs.declared.fault.FilterDocFault.TheVariants.{Operator, Shape, Checked}
 
 -- ---- properties
-
-abbrev pub with_kind : FeatureType → ℕ → Option (ℕ × ValueKind)
-with_kind of_type property = option_map (λ p. (property, p.kind)) (slice_get of_type.properties property)
-
--- the property of the type with this name, whose prefix is not judged, and its kind
-abbrev pub property_of : Option FeatureType → List ℕ → Option (ℕ × ValueKind)
-property_of None name = None
-property_of (Some of_type) name = option_and_then (with_kind of_type) (property_named of_type (without_prefix name))
 
 abbrev pub or_unknown : List ℕ → Option (ℕ × ValueKind) → Result (ℕ × ValueKind) FilterDocFault
 or_unknown name None = Err (Checked Unknown name)
@@ -42,7 +32,7 @@ or_unknown name (Some found) = Ok found
 unfoldable pub property_at : Option FeatureType → Element → Result (ℕ × ValueKind) FilterDocFault
 property_at of_type e = do
   _ ← plain e
-  or_unknown (text_of e) (property_of of_type (text_of e))
+  or_unknown (text_of e) (property_in of_type (text_of e))
 
 -- what has to hold of the property that a ValueReference names
 unfoldable pub suited : Bool → Element → Result (Unit {0}) FilterDocFault
@@ -88,28 +78,22 @@ abbrev pub Sides : Type 0
 Sides = Expr × Expr × ValueKind
 
 -- a property, which e names, and what stands behind it
-unfoldable pub right_from : Option (List (List ℕ)) → Option FeatureType → Element → ℕ × ValueKind → Element → List Element → Result Sides FilterDocFault
-right_from parameters of_type e p f rest = do
-  right ← beside parameters of_type p.1 (text_of e) f
-  _ ← no_more rest
+unfoldable pub right_of : Option (List (List ℕ)) → Option FeatureType → Element → Element → ℕ × ValueKind → List Element → Result Sides FilterDocFault
+right_of parameters of_type whole e p es = do
+  f ← first_in whole es
+  right ← beside parameters of_type p.1 (text_of e) f.0
+  _ ← no_more f.1
   Ok (Property p.0, right, p.1)
 
-abbrev pub right_of : Option (List (List ℕ)) → Option FeatureType → Element → Element → ℕ × ValueKind → List Element → Result Sides FilterDocFault
-right_of parameters of_type whole e p [] = Err (missing whole)
-right_of parameters of_type whole e p (f ∷ rest) = right_from parameters of_type e p f rest
-
 -- a literal, which e holds, and what stands behind it
-unfoldable pub left_from : Option FeatureType → By → Element → Option ℕ → Element → List Element → Result Sides FilterDocFault
-left_from of_type by e place f rest = do
-  _ ← named (codes "ValueReference") f
-  p ← comparable_at of_type by f
-  left ← literal_as p.1 (text_of f) place (text_of e)
-  _ ← no_more rest
+unfoldable pub left_of : Option FeatureType → By → Element → Element → Option ℕ → List Element → Result Sides FilterDocFault
+left_of of_type by whole e place es = do
+  f ← first_in whole es
+  _ ← named (codes "ValueReference") f.0
+  p ← comparable_at of_type by f.0
+  left ← literal_as p.1 (text_of f.0) place (text_of e)
+  _ ← no_more f.1
   Ok (left, Property p.0, p.1)
-
-abbrev pub left_of : Option FeatureType → By → Element → Element → Option ℕ → List Element → Result Sides FilterDocFault
-left_of of_type by whole e place [] = Err (missing whole)
-left_of of_type by whole e place (f ∷ rest) = left_from of_type by e place f rest
 
 unfoldable pub sides_from : Option (List (List ℕ)) → Option FeatureType → By → Element → Element → List Element → Result Sides FilterDocFault
 sides_from parameters of_type by whole e rest =
@@ -119,14 +103,12 @@ sides_from parameters of_type by whole e rest =
     then (literal_at parameters e >>= λ place. left_of of_type by whole e place rest)
     else Err (Shape (local_of e)))
 
-abbrev pub sides_in : Option (List (List ℕ)) → Option FeatureType → By → Element → List Element → Result Sides FilterDocFault
-sides_in parameters of_type by whole [] = Err (missing whole)
-sides_in parameters of_type by whole (e ∷ rest) = sides_from parameters of_type by whole e rest
-
 -- Two of ValueReference and Literal, of which one is a ValueReference. A property that is not compared so, and one of
 -- another kind than that before it, are refused where they stand; a literal where it and the property beside it are known.
 unfoldable pub sides_of : Option (List (List ℕ)) → Option FeatureType → By → Element → Result Sides FilterDocFault
-sides_of parameters of_type by e = sides_in parameters of_type by e (out-Element e).children
+sides_of parameters of_type by e = do
+  f ← first_in e (out-Element e).children
+  sides_from parameters of_type by e f.0 f.1
 
 -- ---- comparisons
 
@@ -174,80 +156,44 @@ compare_of parameters of_type by e = do
 
 -- ---- ranges
 
--- one ValueReference or Literal
-unfoldable pub beside_alone : Option (List (List ℕ)) → Option FeatureType → ValueKind → List ℕ → Element → List Element → Result Expr FilterDocFault
-beside_alone parameters of_type kind name e rest = do
-  x ← beside parameters of_type kind name e
-  _ ← no_more rest
-  Ok x
-
-abbrev pub only_beside : Option (List (List ℕ)) → Option FeatureType → ValueKind → List ℕ → Element → List Element → Result Expr FilterDocFault
-only_beside parameters of_type kind name whole [] = Err (missing whole)
-only_beside parameters of_type kind name whole (e ∷ rest) = beside_alone parameters of_type kind name e rest
-
--- LowerBoundary or UpperBoundary
+-- LowerBoundary or UpperBoundary: one ValueReference or Literal, beside a property of this kind and name
 unfoldable pub bound_at : List ℕ → Option (List (List ℕ)) → Option FeatureType → ValueKind → List ℕ → Element → Result Expr FilterDocFault
 bound_at local parameters of_type kind name e = do
   _ ← named local e
   _ ← no_others [] e
-  only_beside parameters of_type kind name e (out-Element e).children
+  f ← first_in e (out-Element e).children
+  bound ← beside parameters of_type kind name f.0
+  _ ← no_more f.1
+  Ok bound
 
--- the upper bound, behind the lower one
-unfoldable pub high_from : Option (List (List ℕ)) → Option FeatureType → Element → ℕ × ValueKind → Element → List Element → Result Expr FilterDocFault
-high_from parameters of_type e p f rest = do
-  high ← bound_at (codes "UpperBoundary") parameters of_type p.1 (text_of e) f
-  _ ← no_more rest
-  Ok high
-
-abbrev pub high_of : Option (List (List ℕ)) → Option FeatureType → Element → Element → ℕ × ValueKind → List Element → Result Expr FilterDocFault
-high_of parameters of_type whole e p [] = Err (missing whole)
-high_of parameters of_type whole e p (f ∷ rest) = high_from parameters of_type e p f rest
-
--- a range, once its upper bound is known
-abbrev pub range_to : ℕ → Expr → Result Expr FilterDocFault → Result Filter FilterDocFault
-range_to property low high = high >>= λ bound. Ok (Between property low bound)
-
--- both bounds, behind the property, which e names
-unfoldable pub low_from : Option (List (List ℕ)) → Option FeatureType → Element → Element → ℕ × ValueKind → Element → List Element → Result Filter FilterDocFault
-low_from parameters of_type whole e p f rest = do
-  low ← bound_at (codes "LowerBoundary") parameters of_type p.1 (text_of e) f
-  range_to p.0 low (high_of parameters of_type whole e p rest)
-
-abbrev pub low_of : Option (List (List ℕ)) → Option FeatureType → Element → Element → ℕ × ValueKind → List Element → Result Filter FilterDocFault
-low_of parameters of_type whole e p [] = Err (missing whole)
-low_of parameters of_type whole e p (f ∷ rest) = low_from parameters of_type whole e p f rest
-
-unfoldable pub range_from : Option (List (List ℕ)) → Option FeatureType → Element → Element → List Element → Result Filter FilterDocFault
-range_from parameters of_type whole e rest = do
-  _ ← named (codes "ValueReference") e
-  p ← comparable_at of_type Less e
-  low_of parameters of_type whole e p rest
-
-abbrev pub range_in : Option (List (List ℕ)) → Option FeatureType → Element → List Element → Result Filter FilterDocFault
-range_in parameters of_type whole [] = Err (missing whole)
-range_in parameters of_type whole (e ∷ rest) = range_from parameters of_type whole e rest
+-- both bounds, behind a property of this kind and name
+unfoldable pub bounds_of : Option (List (List ℕ)) → Option FeatureType → ValueKind → List ℕ → Element → List Element → Result (Expr × Expr) FilterDocFault
+bounds_of parameters of_type kind name whole es = do
+  lower ← first_in whole es
+  low ← bound_at (codes "LowerBoundary") parameters of_type kind name lower.0
+  upper ← first_in whole lower.1
+  high ← bound_at (codes "UpperBoundary") parameters of_type kind name upper.0
+  _ ← no_more upper.1
+  Ok (low, high)
 
 -- PropertyIsBetween: a property with an order, and then the two bounds
 unfoldable pub between_of : Option (List (List ℕ)) → Option FeatureType → Element → Result Filter FilterDocFault
 between_of parameters of_type e = do
   _ ← no_others [] e
-  range_in parameters of_type e (out-Element e).children
+  f ← first_in e (out-Element e).children
+  _ ← named (codes "ValueReference") f.0
+  p ← comparable_at of_type Less f.0
+  bounds ← bounds_of parameters of_type p.1 (text_of f.0) e f.1
+  Ok (Between p.0 bounds.0 bounds.1)
 
 -- ---- nulls
-
-unfoldable pub null_from : Option FeatureType → Element → List Element → Result Filter FilterDocFault
-null_from of_type e rest = do
-  _ ← named (codes "ValueReference") e
-  p ← property_at of_type e
-  _ ← no_more rest
-  Ok (IsNull p.0)
-
-abbrev pub null_in : Option FeatureType → Element → List Element → Result Filter FilterDocFault
-null_in of_type whole [] = Err (missing whole)
-null_in of_type whole (e ∷ rest) = null_from of_type e rest
 
 -- PropertyIsNull: a property of any kind
 unfoldable pub null_of : Option FeatureType → Element → Result Filter FilterDocFault
 null_of of_type e = do
   _ ← no_others [] e
-  null_in of_type e (out-Element e).children
+  f ← first_in e (out-Element e).children
+  _ ← named (codes "ValueReference") f.0
+  p ← property_at of_type f.0
+  _ ← no_more f.1
+  Ok (IsNull p.0)

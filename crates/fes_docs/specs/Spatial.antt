@@ -9,8 +9,8 @@ use Rattle.gml_docs.specs.declared.fault.GmlFault.{GmlFault}
 use Rattle.feature_values.specs.declared.schema.FeatureType.{FeatureType}
 use Rattle.fes_filter.specs.Check.{is_shape}
 use Rattle.fes_filter.specs.declared.filter.Filter.{Filter}
-use Rattle.fes_filter.specs.declared.filter.Filter.TheVariants.{InBox, Meets, Apart}
-use Rattle.fes_docs.specs.Names.{is_fes, no_others, named, no_more, missing, geometry_fault}
+use Rattle.fes_filter.specs.declared.filter.Filter.TheVariants.{InBox}
+use Rattle.fes_docs.specs.Names.{is_fes, no_others, named, no_more, first_in, geometry_fault}
 use Rattle.fes_docs.specs.Sides.{property_at, suited}
 use Rattle.fes_docs.specs.declared.fault.FilterDocFault.{FilterDocFault}
 
@@ -28,62 +28,31 @@ shape_at of_type e = do
 
 -- ---- BBOX
 
+-- one Envelope, behind which nothing stands
 unfoldable pub envelope_alone : List (List ℕ) → Element → List Element → Result Bounds FilterDocFault
-envelope_alone srs e rest = do
-  area ← drawn (envelope_of srs e)
-  _ ← no_more rest
+envelope_alone srs whole es = do
+  f ← first_in whole es
+  area ← drawn (envelope_of srs f.0)
+  _ ← no_more f.1
   Ok area
-
-abbrev pub only_envelope : List (List ℕ) → Element → List Element → Result Bounds FilterDocFault
-only_envelope srs whole [] = Err (missing whole)
-only_envelope srs whole (e ∷ rest) = envelope_alone srs e rest
-
-unfoldable pub box_from : List (List ℕ) → Option FeatureType → Element → Element → List Element → Result Filter FilterDocFault
-box_from srs of_type whole e rest =
-    if is_fes (codes "ValueReference") e
-    then (shape_at of_type e >>= λ property. only_envelope srs whole rest >>= λ area. Ok (InBox (Some property) area))
-    else (envelope_alone srs e rest >>= λ area. Ok (InBox None area))
-
-abbrev pub box_in : List (List ℕ) → Option FeatureType → Element → List Element → Result Filter FilterDocFault
-box_in srs of_type whole [] = Err (missing whole)
-box_in srs of_type whole (e ∷ rest) = box_from srs of_type whole e rest
 
 -- a property, which may be left out, and then an Envelope
 unfoldable pub box_of : List (List ℕ) → Option FeatureType → Element → Result Filter FilterDocFault
 box_of srs of_type e = do
   _ ← no_others [] e
-  box_in srs of_type e (out-Element e).children
+  f ← first_in e (out-Element e).children
+  if is_fes (codes "ValueReference") f.0 then (shape_at of_type f.0 >>= λ property. envelope_alone srs e f.1 >>= λ area. Ok (InBox (Some property) area)) else (envelope_alone srs e (out-Element e).children >>= λ area. Ok (InBox None area))
 
 -- ---- Intersects and Disjoint
-
-unfoldable pub shape_alone : List (List ℕ) → ℕ → Element → List Element → Result (ℕ × Geometry) FilterDocFault
-shape_alone srs property e rest = do
-  shape ← drawn (geometry_of srs e)
-  _ ← no_more rest
-  Ok (property, shape)
-
-abbrev pub shape_behind : List (List ℕ) → Element → ℕ → List Element → Result (ℕ × Geometry) FilterDocFault
-shape_behind srs whole property [] = Err (missing whole)
-shape_behind srs whole property (e ∷ rest) = shape_alone srs property e rest
-
-unfoldable pub operands_from : List (List ℕ) → Option FeatureType → Element → Element → List Element → Result (ℕ × Geometry) FilterDocFault
-operands_from srs of_type whole e rest = do
-  _ ← named (codes "ValueReference") e
-  property ← shape_at of_type e
-  shape_behind srs whole property rest
-
-abbrev pub operands_in : List (List ℕ) → Option FeatureType → Element → List Element → Result (ℕ × Geometry) FilterDocFault
-operands_in srs of_type whole [] = Err (missing whole)
-operands_in srs of_type whole (e ∷ rest) = operands_from srs of_type whole e rest
 
 -- a property, and then a geometry
 unfoldable pub operands_of : List (List ℕ) → Option FeatureType → Element → Result (ℕ × Geometry) FilterDocFault
 operands_of srs of_type e = do
   _ ← no_others [] e
-  operands_in srs of_type e (out-Element e).children
-
-unfoldable pub meets_of : List (List ℕ) → Option FeatureType → Element → Result Filter FilterDocFault
-meets_of srs of_type e = operands_of srs of_type e >>= λ o. Ok (Meets o.0 o.1)
-
-unfoldable pub apart_of : List (List ℕ) → Option FeatureType → Element → Result Filter FilterDocFault
-apart_of srs of_type e = operands_of srs of_type e >>= λ o. Ok (Apart o.0 o.1)
+  f ← first_in e (out-Element e).children
+  _ ← named (codes "ValueReference") f.0
+  property ← shape_at of_type f.0
+  g ← first_in e f.1
+  shape ← drawn (geometry_of srs g.0)
+  _ ← no_more g.1
+  Ok (property, shape)

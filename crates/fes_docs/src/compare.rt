@@ -3,16 +3,15 @@
 ghost use Rattle.std.specs.Prelude.{◌≡◌};
 ghost use Rattle.std.specs.Option.{option_copied};
 ghost use Rattle.wfs_ends.specs.Read.{GivesBut};
-ghost use Rattle.fes_filter.specs.Check.{is_words};
-ghost use Rattle.fes_docs.specs.Sides.{fold_by, fold_of, is_action, action_of, only_matches, folded, and_folded, compare_of, beside_alone, only_beside, bound_at, high_from, high_of, range_to, low_from, low_of, range_from, range_in, between_of, null_from, null_in, null_of};
+ghost use Rattle.fes_docs.specs.Sides.{fold_by, fold_of, is_action, action_of, only_matches, folded, and_folded, compare_of, bound_at, bounds_of, between_of, null_of};
 ghost use Rattle.fes_docs.specs.declared.fault.FilterDocFault.TheVariants.{OutOfMemory};
 
-use crate::element::{and_no_more, missing, named, no_more, no_others, value_of};
+use crate::element::{and_no_more, first_in, named, no_more, no_others, value_of};
 use crate::fault::{FilterDocFault, checked, no_operator};
-use crate::sides::{beside, comparable_at, is_equality, property_at, sides_of};
+use crate::sides::{beside, comparable_at, property_at, sides_of};
 use doc_tree::Element;
 use feature_values::{FeatureType, ValueKind};
-use fes_filter::{By, Expr, Filter, FilterFault};
+use fes_filter::{By, Expr, Filter, FilterFault, is_equality, is_words};
 use std::alloc::Global;
 use wfs_ends::{List, Text};
 
@@ -61,12 +60,6 @@ fn action_of(alloc: Global, element: &Element) -> Result<(), FilterDocFault>
         return Ok(());
     }
     Err(no_operator(alloc, "matchAction"))
-}
-
-pub(crate) fn is_words(kind: ValueKind) -> bool
-    ensures { result ≡ is_words kind }
-{
-    matches!(kind, ValueKind::Words)
 }
 
 #[tactic(auto, unfolding(crate::specs::Sides::only_matches))]
@@ -127,40 +120,6 @@ pub(crate) fn compare_of(
 
 // ---- ranges
 
-// One ValueReference or Literal.
-#[tactic(auto, unfolding(crate::specs::Sides::beside_alone))]
-fn beside_alone(
-    alloc: Global,
-    parameters: Option<&List<Text>>,
-    of_type: Option<&FeatureType>,
-    kind: ValueKind,
-    name: &Text,
-    first: &Element,
-    rest: &[Element],
-) -> Result<Expr, FilterDocFault>
-    ensures { GivesBut OutOfMemory (λ x. x) result (beside_alone (option_copied parameters.entry) (option_copied of_type.entry) kind name.now first.now rest.now) }
-{
-    let bound = beside(alloc, parameters, of_type, kind, name, first)?;
-    and_no_more(alloc, bound, rest)
-}
-
-fn only_beside(
-    alloc: Global,
-    parameters: Option<&List<Text>>,
-    of_type: Option<&FeatureType>,
-    kind: ValueKind,
-    name: &Text,
-    whole: &Element,
-    elements: &[Element],
-) -> Result<Expr, FilterDocFault>
-    ensures { GivesBut OutOfMemory (λ x. x) result (only_beside (option_copied parameters.entry) (option_copied of_type.entry) kind name.now whole.now elements.now) }
-{
-    match elements {
-        [] => Err(missing(alloc, whole)),
-        [first, rest @ ..] => beside_alone(alloc, parameters, of_type, kind, name, first, rest),
-    }
-}
-
 // The bound in an element of this name, beside a property of this kind and name.
 #[tactic(auto, unfolding(crate::specs::Sides::bound_at))]
 fn bound_at(
@@ -176,95 +135,25 @@ fn bound_at(
 {
     named(alloc, element, local)?;
     no_others(alloc, element, &[])?;
-    only_beside(
-        alloc,
-        parameters,
-        of_type,
-        kind,
-        name,
-        element,
-        element.children.items(),
-    )
+    let (first, rest) = first_in(alloc, element, element.children.items())?;
+    let bound = beside(alloc, parameters, of_type, kind, name, first)?;
+    and_no_more(alloc, bound, rest)
 }
 
-// The upper bound, behind the lower one.
-#[tactic(auto, unfolding(crate::specs::Sides::high_from))]
-fn high_from(
+// Both bounds, behind a property of this kind and name.
+#[tactic(auto, unfolding(crate::specs::Sides::bounds_of))]
+fn bounds_of(
     alloc: Global,
     parameters: Option<&List<Text>>,
     of_type: Option<&FeatureType>,
-    first: &Element,
-    property: (u32, ValueKind),
-    next: &Element,
-    rest: &[Element],
-) -> Result<Expr, FilterDocFault>
-    ensures { GivesBut OutOfMemory (λ x. x) result (high_from (option_copied parameters.entry) (option_copied of_type.entry) first.now property next.now rest.now) }
-{
-    let (_, kind) = property;
-    let name = &first.text;
-    let high = bound_at(
-        alloc,
-        "UpperBoundary",
-        parameters,
-        of_type,
-        kind,
-        name,
-        next,
-    )?;
-    and_no_more(alloc, high, rest)
-}
-
-fn high_of(
-    alloc: Global,
-    parameters: Option<&List<Text>>,
-    of_type: Option<&FeatureType>,
+    kind: ValueKind,
+    name: &Text,
     whole: &Element,
-    first: &Element,
-    property: (u32, ValueKind),
     elements: &[Element],
-) -> Result<Expr, FilterDocFault>
-    ensures { GivesBut OutOfMemory (λ x. x) result (high_of (option_copied parameters.entry) (option_copied of_type.entry) whole.now first.now property elements.now) }
+) -> Result<(Expr, Expr), FilterDocFault>
+    ensures { GivesBut OutOfMemory (λ x. x) result (bounds_of (option_copied parameters.entry) (option_copied of_type.entry) kind name.now whole.now elements.now) }
 {
-    match elements {
-        [] => Err(missing(alloc, whole)),
-        [next, rest @ ..] => high_from(alloc, parameters, of_type, first, property, next, rest),
-    }
-}
-
-// A range, once its upper bound is known.
-fn range_to(
-    property: u32,
-    low: Expr,
-    high: Result<Expr, FilterDocFault>,
-) -> Result<Filter, FilterDocFault>
-    ensures { result ≡ range_to property low high }
-{
-    match high {
-        Ok(high) => Ok(Filter::Between {
-            property,
-            low,
-            high,
-        }),
-        Err(fault) => Err(fault),
-    }
-}
-
-// Both bounds, behind the property that `first` names.
-#[tactic(auto, unfolding(crate::specs::Sides::low_from))]
-fn low_from(
-    alloc: Global,
-    parameters: Option<&List<Text>>,
-    of_type: Option<&FeatureType>,
-    whole: &Element,
-    first: &Element,
-    property: (u32, ValueKind),
-    next: &Element,
-    rest: &[Element],
-) -> Result<Filter, FilterDocFault>
-    ensures { GivesBut OutOfMemory (λ x. x) result (low_from (option_copied parameters.entry) (option_copied of_type.entry) whole.now first.now property next.now rest.now) }
-{
-    let (number, kind) = property;
-    let name = &first.text;
+    let (lower, rest) = first_in(alloc, whole, elements)?;
     let low = bound_at(
         alloc,
         "LowerBoundary",
@@ -272,62 +161,19 @@ fn low_from(
         of_type,
         kind,
         name,
-        next,
+        lower,
     )?;
-    let high = high_of(alloc, parameters, of_type, whole, first, property, rest);
-    range_to(number, low, high)
-}
-
-fn low_of(
-    alloc: Global,
-    parameters: Option<&List<Text>>,
-    of_type: Option<&FeatureType>,
-    whole: &Element,
-    first: &Element,
-    property: (u32, ValueKind),
-    elements: &[Element],
-) -> Result<Filter, FilterDocFault>
-    ensures { GivesBut OutOfMemory (λ x. x) result (low_of (option_copied parameters.entry) (option_copied of_type.entry) whole.now first.now property elements.now) }
-{
-    match elements {
-        [] => Err(missing(alloc, whole)),
-        [next, rest @ ..] => {
-            low_from(
-                alloc, parameters, of_type, whole, first, property, next, rest,
-            )
-        }
-    }
-}
-
-#[tactic(auto, unfolding(crate::specs::Sides::range_from))]
-fn range_from(
-    alloc: Global,
-    parameters: Option<&List<Text>>,
-    of_type: Option<&FeatureType>,
-    whole: &Element,
-    first: &Element,
-    rest: &[Element],
-) -> Result<Filter, FilterDocFault>
-    ensures { GivesBut OutOfMemory (λ x. x) result (range_from (option_copied parameters.entry) (option_copied of_type.entry) whole.now first.now rest.now) }
-{
-    named(alloc, first, "ValueReference")?;
-    let property = comparable_at(alloc, of_type, By::Less, first)?;
-    low_of(alloc, parameters, of_type, whole, first, property, rest)
-}
-
-fn range_in(
-    alloc: Global,
-    parameters: Option<&List<Text>>,
-    of_type: Option<&FeatureType>,
-    whole: &Element,
-    elements: &[Element],
-) -> Result<Filter, FilterDocFault>
-    ensures { GivesBut OutOfMemory (λ x. x) result (range_in (option_copied parameters.entry) (option_copied of_type.entry) whole.now elements.now) }
-{
-    match elements {
-        [] => Err(missing(alloc, whole)),
-        [first, rest @ ..] => range_from(alloc, parameters, of_type, whole, first, rest),
-    }
+    let (upper, rest) = first_in(alloc, whole, rest)?;
+    let high = bound_at(
+        alloc,
+        "UpperBoundary",
+        parameters,
+        of_type,
+        kind,
+        name,
+        upper,
+    )?;
+    and_no_more(alloc, (low, high), rest)
 }
 
 // PropertyIsBetween.
@@ -341,45 +187,18 @@ pub(crate) fn between_of(
     ensures { GivesBut OutOfMemory (λ x. x) result (between_of (option_copied parameters.entry) (option_copied of_type.entry) element.now) }
 {
     no_others(alloc, element, &[])?;
-    range_in(
-        alloc,
-        parameters,
-        of_type,
-        element,
-        element.children.items(),
-    )
+    let (first, rest) = first_in(alloc, element, element.children.items())?;
+    named(alloc, first, "ValueReference")?;
+    let (property, kind) = comparable_at(alloc, of_type, By::Less, first)?;
+    let (low, high) = bounds_of(alloc, parameters, of_type, kind, &first.text, element, rest)?;
+    Ok(Filter::Between {
+        property,
+        low,
+        high,
+    })
 }
 
 // ---- nulls
-
-#[tactic(auto, unfolding(crate::specs::Sides::null_from))]
-fn null_from(
-    alloc: Global,
-    of_type: Option<&FeatureType>,
-    first: &Element,
-    rest: &[Element],
-) -> Result<Filter, FilterDocFault>
-    ensures { GivesBut OutOfMemory (λ x. x) result (null_from (option_copied of_type.entry) first.now rest.now) }
-{
-    named(alloc, first, "ValueReference")?;
-    let (property, _) = property_at(alloc, of_type, first)?;
-    no_more(alloc, rest)?;
-    Ok(Filter::IsNull(property))
-}
-
-fn null_in(
-    alloc: Global,
-    of_type: Option<&FeatureType>,
-    whole: &Element,
-    elements: &[Element],
-) -> Result<Filter, FilterDocFault>
-    ensures { GivesBut OutOfMemory (λ x. x) result (null_in (option_copied of_type.entry) whole.now elements.now) }
-{
-    match elements {
-        [] => Err(missing(alloc, whole)),
-        [first, rest @ ..] => null_from(alloc, of_type, first, rest),
-    }
-}
 
 // PropertyIsNull.
 #[tactic(auto, unfolding(crate::specs::Sides::null_of))]
@@ -391,5 +210,9 @@ pub(crate) fn null_of(
     ensures { GivesBut OutOfMemory (λ x. x) result (null_of (option_copied of_type.entry) element.now) }
 {
     no_others(alloc, element, &[])?;
-    null_in(alloc, of_type, element, element.children.items())
+    let (first, rest) = first_in(alloc, element, element.children.items())?;
+    named(alloc, first, "ValueReference")?;
+    let (property, _) = property_at(alloc, of_type, first)?;
+    no_more(alloc, rest)?;
+    Ok(Filter::IsNull(property))
 }

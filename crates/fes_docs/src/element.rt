@@ -1,7 +1,7 @@
 ghost use Rattle.std.specs.Prelude.{◌≡◌, map};
 ghost use Rattle.std.specs.Option.{option_copied};
 ghost use Rattle.wfs_ends.specs.Read.{GivesBut};
-ghost use Rattle.fes_docs.specs.Names.{is_fes, value_of, no_others, named, no_more, and_no_more, plain, missing};
+ghost use Rattle.fes_docs.specs.Names.{is_fes, value_of, no_others, named, no_more, and_no_more, first_in, plain, missing};
 ghost use Rattle.fes_docs.specs.declared.fault.FilterDocFault.TheVariants.{OutOfMemory};
 
 use crate::fault::{FilterDocFault, misplaced, no_operator};
@@ -88,6 +88,21 @@ pub(crate) fn and_no_more<T: Drop>(
     match no_more(alloc, elements) {
         Ok(()) => Ok(found),
         Err(fault) => Err(fault),
+    }
+}
+
+// The first of the elements that stand in an element, and those behind it. One has to be there.
+#[tactic(auto, unfolding(crate::specs::Names::first_in))]
+pub(crate) fn first_in<'a>(
+    alloc: Global,
+    whole: &Element,
+    elements: &'a [Element],
+) -> Result<(&'a Element, &'a [Element]), FilterDocFault>
+    ensures { GivesBut OutOfMemory (λ x. (x.0.now, x.1.now)) result (first_in whole.now elements.now) }
+{
+    match elements {
+        [] => Err(missing(alloc, whole)),
+        [first, rest @ ..] => Ok((first, rest)),
     }
 }
 

@@ -4,16 +4,15 @@ ghost use Rattle.std.specs.Prelude.{◌≡◌, ◌∷◌, [], IfOk, MatchOption}
 ghost use Rattle.std.specs.Option.{option_copied};
 ghost use Rattle.std.specs.Str.{chars};
 ghost use Rattle.wfs_ends.specs.Read.{GivesBut};
-ghost use Rattle.fes_docs.specs.Like.{one_of, mark_in, mark_of, marks_of, only_marks, bad_marks, part_of, next_part, pattern_of, pattern_from, pattern_behind, like_from, like_in, like_of};
+ghost use Rattle.fes_docs.specs.Like.{one_of, mark_in, mark_of, marks_of, only_marks, bad_marks, part_of, next_part, pattern_of, pattern_behind, like_of};
 ghost use Rattle.fes_docs.specs.declared.fault.FilterDocFault.TheVariants.{OutOfMemory};
 
-use crate::compare::is_words;
-use crate::element::{and_no_more, missing, named, no_others, plain, value_of};
+use crate::element::{and_no_more, first_in, missing, named, no_others, plain, value_of};
 use crate::fault::{FilterDocFault, checked};
 use crate::sides::{property_at, suited};
 use doc_tree::Element;
 use feature_values::FeatureType;
-use fes_filter::{Filter, FilterFault, LikePart};
+use fes_filter::{Filter, FilterFault, LikePart, is_words};
 use std::alloc::Global;
 use wfs_ends::{List, Mem, Text};
 
@@ -143,68 +142,22 @@ fn pattern_of(alloc: Global, marks: Marks, text: &str) -> Result<List<LikePart>,
 
 // ---- the operator
 
-// Behind the property.
-#[tactic(auto, unfolding(crate::specs::Like::pattern_from))]
-fn pattern_from(
+// A Literal with a pattern, behind a property.
+#[tactic(auto, unfolding(crate::specs::Like::pattern_behind))]
+fn pattern_behind(
     alloc: Global,
     marks: Marks,
     property: u32,
-    first: &Element,
-    rest: &[Element],
+    whole: &Element,
+    elements: &[Element],
 ) -> Result<Filter, FilterDocFault>
-    ensures { GivesBut OutOfMemory (λ x. x) result (pattern_from marks property first.now rest.now) }
+    ensures { GivesBut OutOfMemory (λ x. x) result (pattern_behind marks property whole.now elements.now) }
 {
+    let (first, rest) = first_in(alloc, whole, elements)?;
     named(alloc, first, "Literal")?;
     plain(alloc, first)?;
     let pattern = pattern_of(alloc, marks, first.text.as_str())?;
     and_no_more(alloc, Filter::Like { property, pattern }, rest)
-}
-
-fn pattern_behind(
-    alloc: Global,
-    marks: Marks,
-    whole: &Element,
-    property: u32,
-    elements: &[Element],
-) -> Result<Filter, FilterDocFault>
-    ensures { GivesBut OutOfMemory (λ x. x) result (pattern_behind marks whole.now property elements.now) }
-{
-    match elements {
-        [] => Err(missing(alloc, whole)),
-        [first, rest @ ..] => pattern_from(alloc, marks, property, first, rest),
-    }
-}
-
-#[tactic(auto, unfolding(crate::specs::Like::like_from))]
-fn like_from(
-    alloc: Global,
-    of_type: Option<&FeatureType>,
-    marks: Marks,
-    whole: &Element,
-    first: &Element,
-    rest: &[Element],
-) -> Result<Filter, FilterDocFault>
-    ensures { GivesBut OutOfMemory (λ x. x) result (like_from (option_copied of_type.entry) marks whole.now first.now rest.now) }
-{
-    named(alloc, first, "ValueReference")?;
-    let (property, kind) = property_at(alloc, of_type, first)?;
-    suited(alloc, is_words(kind), first)?;
-    pattern_behind(alloc, marks, whole, property, rest)
-}
-
-fn like_in(
-    alloc: Global,
-    of_type: Option<&FeatureType>,
-    marks: Marks,
-    whole: &Element,
-    elements: &[Element],
-) -> Result<Filter, FilterDocFault>
-    ensures { GivesBut OutOfMemory (λ x. x) result (like_in (option_copied of_type.entry) marks whole.now elements.now) }
-{
-    match elements {
-        [] => Err(missing(alloc, whole)),
-        [first, rest @ ..] => like_from(alloc, of_type, marks, whole, first, rest),
-    }
 }
 
 // PropertyIsLike: a property of texts, and then a pattern.
@@ -218,5 +171,9 @@ pub(crate) fn like_of(
 {
     let marks = marks_of(alloc, element)?;
     only_marks(alloc, element)?;
-    like_in(alloc, of_type, marks, element, element.children.items())
+    let (first, rest) = first_in(alloc, element, element.children.items())?;
+    named(alloc, first, "ValueReference")?;
+    let (property, kind) = property_at(alloc, of_type, first)?;
+    suited(alloc, is_words(kind), first)?;
+    pattern_behind(alloc, marks, property, element, rest)
 }

@@ -7,11 +7,10 @@ ghost use Rattle.wfs_ends.specs.Ends.{joined};
 ghost use Rattle.doc_tree.specs.Tree.{prefixed};
 ghost use Rattle.fes_docs.specs.Written.{property_name, reference, value_text, use_of, place_text, side, type_name, id_text, id_tree};
 
-use crate::sides::type_in;
 use crate::written::{alone, attribute, element, leaf, three};
 use doc_tree::Element;
 use feature_values::{FeatureType, Rid, Schema, Value};
-use fes_filter::{Expr, IdRef};
+use fes_filter::{Expr, IdRef, type_in};
 use itoa::Buffer;
 use std::alloc::Global;
 use wfs_ends::{List, Mem, Text};

@@ -5,16 +5,15 @@ ghost use Rattle.fes_docs.specs.Filters.{counted, only_id, predicate_of, next_op
 ghost use Rattle.fes_docs.specs.declared.fault.FilterDocFault.TheVariants.{OutOfMemory};
 
 use crate::compare::{between_of, compare_of, null_of};
-use crate::element::{and_no_more, is_fes, missing, no_others};
+use crate::element::{and_no_more, first_in, is_fes, missing, no_others};
 use crate::fault::{FilterDocFault, checked, misplaced};
 use crate::ids::{id_at, ids_of};
 use crate::like::like_of;
 use crate::operator::{Operator, Predicate, operator_in};
-use crate::sides::type_in;
-use crate::spatial::{apart_of, box_of, meets_of};
+use crate::spatial::{box_of, operands_of};
 use doc_tree::Element;
 use feature_values::Schema;
-use fes_filter::{Filter, FilterFault, IdRef};
+use fes_filter::{Filter, FilterFault, IdRef, type_in};
 use std::alloc::Global;
 use wfs_ends::{Boxed, List, Mem, Text};
 
@@ -71,8 +70,14 @@ fn predicate_of(
         Predicate::Null => null_of(alloc, of_type, element),
         Predicate::Between => between_of(alloc, parameters, of_type, element),
         Predicate::Bbox => box_of(alloc, &schema.srs, of_type, element),
-        Predicate::Intersects => meets_of(alloc, &schema.srs, of_type, element),
-        Predicate::Disjoint => apart_of(alloc, &schema.srs, of_type, element),
+        Predicate::Intersects => {
+            let (property, shape) = operands_of(alloc, &schema.srs, of_type, element)?;
+            Ok(Filter::Meets { property, shape })
+        }
+        Predicate::Disjoint => {
+            let (property, shape) = operands_of(alloc, &schema.srs, of_type, element)?;
+            Ok(Filter::Apart { property, shape })
+        }
         Predicate::ResourceId => only_id(alloc, parameters, schema, element),
     }
 }
@@ -220,15 +225,11 @@ fn content_of(
 ) -> Result<Filter, FilterDocFault>
     ensures { GivesBut OutOfMemory (λ x. x) result (content_of (option_copied parameters.entry) schema.now kind whole.now elements.now) }
 {
-    match elements {
-        [] => Err(missing(alloc, whole)),
-        [first, rest @ ..] => {
-            if is_fes(first, "ResourceId") {
-                return ids_in(alloc, parameters, schema, elements);
-            }
-            content_from(alloc, parameters, schema, kind, first, rest)
-        }
+    let (first, rest) = first_in(alloc, whole, elements)?;
+    if is_fes(first, "ResourceId") {
+        return ids_in(alloc, parameters, schema, elements);
     }
+    content_from(alloc, parameters, schema, kind, first, rest)
 }
 
 #[tactic(auto, unfolding(crate::specs::Filters::filter_of))]

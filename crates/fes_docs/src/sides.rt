@@ -3,41 +3,19 @@
 ghost use Rattle.std.specs.Prelude.{◌≡◌};
 ghost use Rattle.std.specs.Option.{option_copied};
 ghost use Rattle.wfs_ends.specs.Read.{GivesBut};
-ghost use Rattle.fes_filter.specs.Check.{type_in, is_same, is_equality, is_comparable};
-ghost use Rattle.fes_docs.specs.Sides.{property_of, property_at, suited, comparable_at, literal_as, literal_at, beside, right_from, right_of, left_from, left_of, sides_from, sides_in, sides_of};
+ghost use Rattle.fes_docs.specs.Sides.{property_at, suited, comparable_at, literal_as, literal_at, beside, right_of, left_of, sides_from, sides_of};
 ghost use Rattle.fes_docs.specs.declared.fault.FilterDocFault.TheVariants.{OutOfMemory};
 
-use crate::element::{and_no_more, is_fes, missing, named, plain};
+use crate::element::{and_no_more, first_in, is_fes, missing, named, plain};
 use crate::fault::{FilterDocFault, checked};
 use crate::uses::place_of;
 use doc_tree::Element;
-use feature_values::{FeatureType, Schema, ValueFault, ValueKind, read_as, without_prefix};
-use fes_filter::{By, Expr, FilterFault};
+use feature_values::{FeatureType, ValueFault, ValueKind, read_as};
+use fes_filter::{By, Expr, FilterFault, is_comparable, is_same, property_in};
 use std::alloc::Global;
 use wfs_ends::{List, Text};
 
 // ---- properties
-
-// The type of a number.
-pub(crate) fn type_in(schema: &Schema, kind: Option<u32>) -> Option<&FeatureType>
-    ensures { option_copied result ≡ type_in schema.now kind }
-{
-    match kind {
-        None => None,
-        Some(kind) => schema.types.items().get(kind as usize),
-    }
-}
-
-fn property_of(of_type: Option<&FeatureType>, name: &str) -> Option<(u32, ValueKind)>
-    ensures { result ≡ property_of (option_copied of_type.entry) name.now }
-{
-    let of_type = of_type?;
-    let property = of_type.property_named(without_prefix(name))?;
-    match of_type.properties.items().get(property as usize) {
-        None => None,
-        Some(found) => Some((property, found.kind)),
-    }
-}
 
 // The property that a ValueReference names, and its kind.
 #[tactic(auto, unfolding(crate::specs::Sides::property_at))]
@@ -49,7 +27,7 @@ pub(crate) fn property_at(
     ensures { GivesBut OutOfMemory (λ x. x) result (property_at (option_copied of_type.entry) element.now) }
 {
     plain(alloc, element)?;
-    match property_of(of_type, element.text.as_str()) {
+    match property_in(of_type, element.text.as_str()) {
         None => Err(checked(alloc, FilterFault::Unknown, element.text.as_str())),
         Some(found) => Ok(found),
     }
@@ -64,28 +42,6 @@ pub(crate) fn suited(alloc: Global, holds: bool, element: &Element) -> Result<()
         return Ok(());
     }
     Err(checked(alloc, FilterFault::Types, element.text.as_str()))
-}
-
-fn is_same(a: ValueKind, b: ValueKind) -> bool
-    ensures { result ≡ is_same a b }
-{
-    a == b
-}
-
-pub(crate) fn is_equality(by: By) -> bool
-    ensures { result ≡ is_equality by }
-{
-    matches!(by, By::Equal | By::NotEqual)
-}
-
-fn is_comparable(by: By, kind: ValueKind) -> bool
-    ensures { result ≡ is_comparable by kind }
-{
-    match kind {
-        ValueKind::Words | ValueKind::Whole => true,
-        ValueKind::Truth => is_equality(by),
-        ValueKind::Point | ValueKind::Line | ValueKind::Polygon => false,
-    }
 }
 
 // A property whose values are compared so, and its kind.
@@ -165,23 +121,7 @@ pub(crate) fn beside(
 // ---- the sides of a comparison
 
 // Behind the property that `first` names.
-#[tactic(auto, unfolding(crate::specs::Sides::right_from))]
-fn right_from(
-    alloc: Global,
-    parameters: Option<&List<Text>>,
-    of_type: Option<&FeatureType>,
-    first: &Element,
-    property: (u32, ValueKind),
-    second: &Element,
-    rest: &[Element],
-) -> Result<(Expr, Expr, ValueKind), FilterDocFault>
-    ensures { GivesBut OutOfMemory (λ x. x) result (right_from (option_copied parameters.entry) (option_copied of_type.entry) first.now property second.now rest.now) }
-{
-    let (property, kind) = property;
-    let right = beside(alloc, parameters, of_type, kind, &first.text, second)?;
-    and_no_more(alloc, (Expr::Property(property), right, kind), rest)
-}
-
+#[tactic(auto, unfolding(crate::specs::Sides::right_of))]
 fn right_of(
     alloc: Global,
     parameters: Option<&List<Text>>,
@@ -193,33 +133,14 @@ fn right_of(
 ) -> Result<(Expr, Expr, ValueKind), FilterDocFault>
     ensures { GivesBut OutOfMemory (λ x. x) result (right_of (option_copied parameters.entry) (option_copied of_type.entry) whole.now first.now property elements.now) }
 {
-    match elements {
-        [] => Err(missing(alloc, whole)),
-        [second, rest @ ..] => {
-            right_from(alloc, parameters, of_type, first, property, second, rest)
-        }
-    }
+    let (second, rest) = first_in(alloc, whole, elements)?;
+    let (property, kind) = property;
+    let right = beside(alloc, parameters, of_type, kind, &first.text, second)?;
+    and_no_more(alloc, (Expr::Property(property), right, kind), rest)
 }
 
 // Behind the literal that `first` holds.
-#[tactic(auto, unfolding(crate::specs::Sides::left_from))]
-fn left_from(
-    alloc: Global,
-    of_type: Option<&FeatureType>,
-    by: By,
-    first: &Element,
-    place: Option<u32>,
-    second: &Element,
-    rest: &[Element],
-) -> Result<(Expr, Expr, ValueKind), FilterDocFault>
-    ensures { GivesBut OutOfMemory (λ x. x) result (left_from (option_copied of_type.entry) by first.now place second.now rest.now) }
-{
-    named(alloc, second, "ValueReference")?;
-    let (property, kind) = comparable_at(alloc, of_type, by, second)?;
-    let left = literal_as(alloc, kind, &second.text, place, &first.text)?;
-    and_no_more(alloc, (left, Expr::Property(property), kind), rest)
-}
-
+#[tactic(auto, unfolding(crate::specs::Sides::left_of))]
 fn left_of(
     alloc: Global,
     of_type: Option<&FeatureType>,
@@ -231,10 +152,11 @@ fn left_of(
 ) -> Result<(Expr, Expr, ValueKind), FilterDocFault>
     ensures { GivesBut OutOfMemory (λ x. x) result (left_of (option_copied of_type.entry) by whole.now first.now place elements.now) }
 {
-    match elements {
-        [] => Err(missing(alloc, whole)),
-        [second, rest @ ..] => left_from(alloc, of_type, by, first, place, second, rest),
-    }
+    let (second, rest) = first_in(alloc, whole, elements)?;
+    named(alloc, second, "ValueReference")?;
+    let (property, kind) = comparable_at(alloc, of_type, by, second)?;
+    let left = literal_as(alloc, kind, &second.text, place, &first.text)?;
+    and_no_more(alloc, (left, Expr::Property(property), kind), rest)
 }
 
 #[tactic(auto, unfolding(crate::specs::Sides::sides_from))]
@@ -260,22 +182,6 @@ fn sides_from(
     Err(missing(alloc, first))
 }
 
-fn sides_in(
-    alloc: Global,
-    parameters: Option<&List<Text>>,
-    of_type: Option<&FeatureType>,
-    by: By,
-    whole: &Element,
-    elements: &[Element],
-) -> Result<(Expr, Expr, ValueKind), FilterDocFault>
-    ensures { GivesBut OutOfMemory (λ x. x) result (sides_in (option_copied parameters.entry) (option_copied of_type.entry) by whole.now elements.now) }
-{
-    match elements {
-        [] => Err(missing(alloc, whole)),
-        [first, rest @ ..] => sides_from(alloc, parameters, of_type, by, whole, first, rest),
-    }
-}
-
 // The two sides of a comparison, and the kind of its property.
 #[tactic(auto, unfolding(crate::specs::Sides::sides_of))]
 pub(crate) fn sides_of(
@@ -287,12 +193,6 @@ pub(crate) fn sides_of(
 ) -> Result<(Expr, Expr, ValueKind), FilterDocFault>
     ensures { GivesBut OutOfMemory (λ x. x) result (sides_of (option_copied parameters.entry) (option_copied of_type.entry) by element.now) }
 {
-    sides_in(
-        alloc,
-        parameters,
-        of_type,
-        by,
-        element,
-        element.children.items(),
-    )
+    let (first, rest) = first_in(alloc, element, element.children.items())?;
+    sides_from(alloc, parameters, of_type, by, element, first, rest)
 }
