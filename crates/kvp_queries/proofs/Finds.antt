@@ -1,7 +1,7 @@
 -- One turn of a search through a list.
-use Rattle.std.proofs.Common.{◌≡◌, Bool, ℕ, ◌+◌, ◌<◌, ◌≤◌, cond, List, ◌∷◌, length, get_or, drop, map, find, Option, Some, None}
+use Rattle.std.proofs.Common.{◌≡◌, Bool, ℕ, ◌+◌, ◌<◌, ◌≤◌, cond, List, ◌∷◌, length, get_or, drop, map, find, Some, None}
 use Rattle.std.proofs.lemmas.List.{at_drop_more, at_drop_all}
-use Rattle.kvp_queries.specs.Pairs.{Pair, is_same, value_of}
+use Rattle.kvp_queries.specs.Pairs.{Pair, value_of}
 
 pub find_turn : {X Y : Type 0} (p : Y → Bool) (f : X → Y) (xs : List X) (i : ℕ) (d : X) → i < length xs → find p (map f (drop i xs)) ≡ cond (p (f (get_or xs i d))) (Some (f (get_or xs i d))) (find p (map f (drop (i + 1) xs)))
 find_turn p f xs i d lt = at_drop_more (λ ys. find p (map f ys)) xs i d lt

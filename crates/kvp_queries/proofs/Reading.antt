@@ -1,14 +1,12 @@
 -- The pairs that are read, one after the other, and those of a link.
-use Rattle.std.proofs.Common.{◌≡◌, Bool, true, false, not, ℕ, cond, List, [], ◌∷◌, ◌++◌, map, filter, Option, Some, None, Result, Ok, Err, refl, sym, ap, ◌∙◌, inl, inr, append_assoc}
+use Rattle.std.proofs.Common.{◌≡◌, List, [], ◌∷◌, map, filter, Some, Result, Ok, refl, sym, ap, ◌∙◌, inl, inr, append_assoc}
 use Rattle.std.proofs.lemmas.Bool.{cases_Bool}
 use Rattle.std.proofs.lemmas.List.{append-nil}
 use Rattle.std.specs.Cow.{cow_str_bytes}
 use Rattle.std.specs.List.{list_any}
-use Rattle.std.specs.Str.Lossy.{utf8_lossy}
 use Rattle.std.specs.declared.borrow.CowStr.{CowStr}
 use Rattle.form_urlencoded.specs.Parse.{pairs_left, YieldsDecoded}
 use Rattle.form_urlencoded.specs.declared.reading.Pairs.{Pairs}
-use Rattle.form_urlencoded.specs.Form.{extend_pairs}
 use Rattle.wfs_ends.specs.Read.{◌>>=◌, FailsBut}
 use Rattle.wfs_machine.specs.declared.fault.AskFault.{AskFault}
 use Rattle.kvp_queries.specs.Pairs.{Pair, pair_of, is_given, is_repeat, first_repeat, behind, stays}

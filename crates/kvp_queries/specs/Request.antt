@@ -1,6 +1,6 @@
 -- The request that a query asks, or what is wrong first, in the order of judging: names that come twice, in the query's order; the
 -- service; the operation; the version; the operation's parameters in the order in which the operation lists them; and what is missing.
-use Rattle.std.specs.Prelude.{ℕ, Bool, true, false, not, ◌||◌, if◌then◌else◌, List, [], ◌∷◌, Option, Some, None, unwrap_or, is_some, Result, Ok, Err, codes}
+use Rattle.std.specs.Prelude.{ℕ, Bool, true, false, not, ◌||◌, if◌then◌else◌, List, [], ◌∷◌, Option, Some, None, unwrap_or, is_some, Ok, Err, codes}
 use Rattle.std.specs.Str.{bytes_eq}
 use Rattle.wfs_ends.specs.Read.{◌>>=◌, unless}
 use Rattle.feature_values.specs.declared.schema.Schema.{Schema}

@@ -1,10 +1,10 @@
 -- Which features a query asks for (OGC 09-025r2, section 7.9.2). One of three parameters may choose among the features of a type:
 -- resourceId, a list of identifiers; filter, a document of the Filter Encoding; and bbox, a box. Each is judged by its own rule
 -- before it is asked whether there are several.
-use Rattle.std.specs.Prelude.{ℕ, Bool, true, ◌&&◌, ◌||◌, ◌==◌, if◌then◌else◌, List, [], ◌∷◌, length, map, Option, Some, None, option_map, is_some, Result, Ok, Err, codes}
+use Rattle.std.specs.Prelude.{ℕ, Bool, true, ◌&&◌, ◌||◌, ◌==◌, if◌then◌else◌, List, [], ◌∷◌, map, Option, Some, None, option_map, is_some, Result, Ok, Err, codes}
 use Rattle.std.specs.Option.{option_and_then}
 use Rattle.std.specs.Result.{result_ok}
-use Rattle.std.specs.List.{list_any, position_or_len, before_first, after_first, slice_split}
+use Rattle.std.specs.List.{list_any, slice_split, join_with_byte}
 use Rattle.wfs_ends.specs.Read.{◌>>=◌, unless}
 use Rattle.doc_tree.specs.declared.tree.Element.{Element}
 use Rattle.doc_read.specs.Document.{document}
@@ -104,40 +104,29 @@ document_filter schema kind given = filter_at schema kind (value_of (codes "filt
 
 -- ---- bbox (OGC 06-121r9, section 10.2.3)
 
--- what stands before the first comma, and what stands behind it
-unfoldable pub cut : List ℕ → Option (List ℕ × List ℕ)
-cut text =
-    if position_or_len is_comma text == length text then None else Some (before_first is_comma text, after_first is_comma text)
-
 -- a corner at two coordinates
 unfoldable pub corner_at : List ℕ → List ℕ → Option Point
 corner_at x y = result_ok (position_of_words x y)
-
--- a reference system, where one is named
-abbrev pub is_system : Schema → Option (List ℕ) → Bool
-is_system schema None = true
-is_system schema (Some name) = is_listed schema.srs name
-
-abbrev pub split_last : List ℕ → Option (List ℕ × List ℕ) → List ℕ × Option (List ℕ)
-split_last text None = (text, None)
-split_last text (Some parts) = (parts.0, Some parts.1)
-
--- the last coordinate, and behind a comma the name of a reference system
-unfoldable pub last_of : List ℕ → List ℕ × Option (List ℕ)
-last_of text = split_last text (cut text)
 
 -- the box between two corners
 unfoldable pub box_between : List ℕ → List ℕ → List ℕ → List ℕ → Option Bounds
 box_between low_x low_y high_x high_y =
     option_and_then (λ low. option_and_then (λ high. result_ok (box_of low high)) (corner_at high_x high_y)) (corner_at low_x low_y)
 
--- The box of a text: the two coordinates of its lower corner and those of its upper one, which no coordinate of the lower one is
--- above, and then a name of the reference system, or none; commas stand between them.
+-- the name of the reference system in the parts behind the coordinates, where there are any; commas may stand in it
+unfoldable pub is_system : Schema → List (List ℕ) → Bool
+is_system schema [] = true
+is_system schema (part ∷ parts) = is_listed schema.srs (join_with_byte 44 (part ∷ parts))
+
+-- the box of the parts between commas: the two coordinates of its lower corner and those of its upper one, which no coordinate of
+-- the lower one is above, and then the name of the reference system, or nothing
+abbrev pub box_of_parts : Schema → List (List ℕ) → Option Bounds
+box_of_parts schema (low_x ∷ low_y ∷ high_x ∷ high_y ∷ name) = if is_system schema name then box_between low_x low_y high_x high_y else None
+box_of_parts schema parts = None
+
+-- the box of a text
 unfoldable pub box_in : Schema → List ℕ → Option Bounds
-box_in schema text =
-    option_and_then (λ a. option_and_then (λ b. option_and_then (λ c.
-    let d = last_of c.1 in
-    if is_system schema d.1 then box_between a.0 b.0 c.0 d.0 else None) (cut b.1)) (cut a.1)) (cut text)
+box_in schema text = box_of_parts schema (slice_split is_comma text)
 
 abbrev pub box_at : Schema → Option (List ℕ) → Ask (Option Filter)
 box_at schema None = Ok None

@@ -1,15 +1,13 @@
 -- In what order a query asks for features (OGC 09-025r2, section 7.9.2; OGC 09-026r2, section 7.12): a list of properties with
 -- commas between them, and behind each, after a space, ASC or DESC. A property may come twice; the first place decides.
-use Rattle.std.specs.Prelude.{ℕ, Bool, true, false, ◌==◌, if◌then◌else◌, List, [], ◌∷◌, ◌++◌, length, Option, Some, None, Result, Ok, Err, codes}
+use Rattle.std.specs.Prelude.{ℕ, Bool, true, false, ◌==◌, if◌then◌else◌, List, [], ◌∷◌, ◌++◌, length, Option, Some, None, Ok, Err, codes}
 use Rattle.std.specs.List.{position_or_len, before_first, after_first, slice_split}
 use Rattle.std.specs.Str.{bytes_eq}
 use Rattle.wfs_ends.specs.Read.{◌>>=◌, each, unless}
 use Rattle.feature_values.specs.declared.schema.FeatureType.{FeatureType}
 use Rattle.feature_values.specs.declared.schema.Schema.{Schema}
-use Rattle.feature_values.specs.declared.schema.ValueKind.{ValueKind}
-use Rattle.fes_filter.specs.Check.{type_in, is_shape}
+use Rattle.fes_filter.specs.Check.{type_in, property_in, is_shape}
 use Rattle.fes_filter.specs.declared.query.SortKey.{SortKey}
-use Rattle.fes_docs.specs.Sides.{property_of}
 use Rattle.wfs_machine.specs.Terms.{refused}
 use Rattle.wfs_machine.specs.declared.fault.AskFault.{AskFault}
 use Rattle.kvp_queries.specs.Pairs.{Pair, value_of}
@@ -30,7 +28,7 @@ name_and_word part =
 -- the property of a name, which has values that have an order; geometries have none
 unfoldable pub sortable : FeatureType → List ℕ → Ask ℕ
 sortable of_type name = do
-  p ← or_fault (property_of (Some of_type) name) (refused 11 name)
+  p ← or_fault (property_in (Some of_type) name) (refused 11 name)
   _ ← unless (is_shape p.1) not_sorted
   Ok p.0
 

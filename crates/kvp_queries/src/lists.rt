@@ -1,7 +1,7 @@
-ghost use Rattle.std.specs.Prelude.{◌≡◌, ◌<◌, [], ◌∷◌, IfSome, MatchOption, length, option_map};
+ghost use Rattle.std.specs.Prelude.{◌≡◌, ◌<◌, [], ◌∷◌, IfSome, MatchOption, length};
 ghost use Rattle.std.specs.List.{list_any, slice_split};
 ghost use Rattle.std.specs.Str.{IsUtf8};
-ghost use Rattle.kvp_queries.specs.Selection.{is_comma, cut};
+ghost use Rattle.kvp_queries.specs.Selection.{is_comma};
 
 pub(crate) fn has_comma(text: &str) -> bool
     ensures { result ≡ list_any is_comma text.now }
@@ -10,9 +10,8 @@ pub(crate) fn has_comma(text: &str) -> bool
 }
 
 // The part before the first comma, and what stands behind it.
-#[tactic(auto, using(crate::proofs::Splits::first_part, crate::proofs::Splits::one_part), unfolding(crate::specs::Selection::cut))]
+#[tactic(auto, using(crate::proofs::Splits::first_part, crate::proofs::Splits::one_part))]
 pub(crate) fn cut(text: &str) -> Option<(&str, &str)>
-    ensures value { option_map (λ x. (x.0.now, x.1.now)) result ≡ cut text.now }
     ensures parts { MatchOption result (slice_split is_comma text.now ≡ text.now ∷ []) (λ x. slice_split is_comma text.now ≡ x.0.now ∷ slice_split is_comma x.1.now) }
     ensures text { IfSome result (λ x. IsUtf8 x.1.now) }
     ensures shorter { IfSome result (λ x. length x.1.now < length text.now) }

@@ -1,9 +1,9 @@
-ghost use Rattle.std.specs.Prelude.{◌≡◌, IfOk, None, option_map};
+ghost use Rattle.std.specs.Prelude.{◌≡◌, IfOk, None};
 ghost use Rattle.wfs_ends.specs.Read.{GivesBut};
 ghost use Rattle.doc_read.specs.Document.{document};
 ghost use Rattle.fes_docs.specs.Filters.{filter_of};
 ghost use Rattle.wfs_machine.specs.declared.fault.AskFault.TheVariants.{OutOfMemory};
-ghost use Rattle.kvp_queries.specs.Selection.{id_of, ids_in, ids_filter, or_no_document, refusal_by, or_refusal, filter_in, document_filter, corner_at, is_system, last_of, box_between, box_in, box_filter, alone, first_of, only_one, chosen};
+ghost use Rattle.kvp_queries.specs.Selection.{id_of, ids_in, ids_filter, or_no_document, refusal_by, or_refusal, filter_in, document_filter, corner_at, box_between, box_in, box_filter, alone, first_of, only_one, chosen};
 
 use crate::lists::cut;
 use crate::pairs::value_of;
@@ -136,27 +136,6 @@ fn corner_at(x: &str, y: &str) -> Option<Pos>
     read_position(x, y).ok()
 }
 
-// A reference system, where one is named.
-fn is_system(schema: &Schema, name: Option<&str>) -> bool
-    ensures { result ≡ is_system schema.now (option_map (λ t. t.now) name.entry) }
-{
-    match name {
-        Some(name) => is_listed(schema.srs.items(), name),
-        None => true,
-    }
-}
-
-// The last coordinate, and behind a comma the name of a reference system.
-#[tactic(auto, unfolding(crate::specs::Selection::last_of))]
-fn last_of(text: &str) -> (&str, Option<&str>)
-    ensures { (result.0.now, option_map (λ t. t.now) result.1) ≡ last_of text.now }
-{
-    match cut(text) {
-        Some((last, name)) => (last, Some(name)),
-        None => (text, None),
-    }
-}
-
 // The box between two corners.
 #[tactic(auto, unfolding(crate::specs::Selection::box_between))]
 fn box_between(low_x: &str, low_y: &str, high_x: &str, high_y: &str) -> Option<Box2>
@@ -168,15 +147,17 @@ fn box_between(low_x: &str, low_y: &str, high_x: &str, high_y: &str) -> Option<B
 }
 
 // The box of a text.
-#[tactic(auto, unfolding(crate::specs::Selection::box_in))]
+#[tactic(auto, using(crate::proofs::Splits::no_system, crate::proofs::Splits::system_named), unfolding(crate::specs::Selection::box_in))]
 fn box_in(schema: &Schema, text: &str) -> Option<Box2>
     ensures { result ≡ box_in schema.now text.now }
 {
     let (low_x, rest) = cut(text)?;
     let (low_y, rest) = cut(rest)?;
     let (high_x, rest) = cut(rest)?;
-    let (high_y, name) = last_of(rest);
-    if !is_system(schema, name) {
+    let Some((high_y, name)) = cut(rest) else {
+        return box_between(low_x, low_y, high_x, rest);
+    };
+    if !is_listed(schema.srs.items(), name) {
         return None;
     }
     box_between(low_x, low_y, high_x, high_y)

@@ -2,48 +2,17 @@ ghost use Rattle.std.specs.Prelude.{◌≡◌, ◌++◌, [], ◌∷◌, OnOk, So
 ghost use Rattle.std.specs.Option.{option_copied};
 ghost use Rattle.std.specs.List.{slice_split};
 ghost use Rattle.wfs_ends.specs.Read.{GivesBut, each};
-ghost use Rattle.fes_filter.specs.Check.{type_in, is_shape};
-ghost use Rattle.fes_docs.specs.Sides.{property_of};
 ghost use Rattle.wfs_machine.specs.declared.fault.AskFault.TheVariants.{OutOfMemory};
 ghost use Rattle.kvp_queries.specs.Selection.{is_comma};
 ghost use Rattle.kvp_queries.specs.Sorting.{name_and_word, sortable, is_descending, key_of, next_key, keys_in, keys_of};
 
 use crate::lists::cut;
 use crate::pairs::value_of;
-use feature_values::{FeatureType, Schema, ValueKind, without_prefix};
-use fes_filter::SortKey;
+use feature_values::{FeatureType, Schema};
+use fes_filter::{SortKey, is_shape, property_in, type_in};
 use std::alloc::Global;
 use wfs_ends::{List, Mem, Text};
 use wfs_machine::{AskFault, refused};
-
-fn type_in(schema: &Schema, kind: Option<u32>) -> Option<&FeatureType>
-    ensures { option_copied result ≡ type_in schema.now kind }
-{
-    match kind {
-        None => None,
-        Some(kind) => schema.types.items().get(kind as usize),
-    }
-}
-
-fn is_shape(kind: ValueKind) -> bool
-    ensures { result ≡ is_shape kind }
-{
-    matches!(
-        kind,
-        ValueKind::Point | ValueKind::Line | ValueKind::Polygon
-    )
-}
-
-// The property of a name, and its kind.
-fn property_of(of_type: &FeatureType, name: &str) -> Option<(u32, ValueKind)>
-    ensures { result ≡ property_of (Some of_type.now) name.now }
-{
-    let property = of_type.property_named(without_prefix(name))?;
-    match of_type.properties.items().get(property as usize) {
-        None => None,
-        Some(found) => Some((property, found.kind)),
-    }
-}
 
 // A name, and the word behind the first space.
 #[tactic(auto, unfolding(crate::specs::Sorting::name_and_word))]
@@ -61,7 +30,7 @@ fn name_and_word(part: &str) -> (&str, Option<&str>)
 fn sortable(alloc: Global, of_type: &FeatureType, name: &str) -> Result<u32, AskFault>
     ensures { GivesBut OutOfMemory (λ p. p) result (sortable of_type.now name.now) }
 {
-    let Some((property, kind)) = property_of(of_type, name) else {
+    let Some((property, kind)) = property_in(Some(of_type), name) else {
         return Err(refused(alloc, 11, name));
     };
     if is_shape(kind) {
