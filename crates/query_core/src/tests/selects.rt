@@ -1,0 +1,168 @@
+//! What queries select.
+
+ghost use Rattle.std.specs.Prelude.{◌≡◌, ◌<◌};
+
+use super::views::{SampleView, sample};
+use super::{LABEL, Place, SIZE, ids, words};
+use crate::select;
+use feature_values::{Rid, Value};
+use fes_filter::{By, Expr, Filter, IdRef, Query, Steps};
+use std::alloc::Global;
+use std::marker::Brand;
+use std::sync::ledger::{Blank, Ledger};
+use std::test::Fail;
+use wfs_ends::{Boxed, List, Mem};
+
+fn counted<L: Ledger>(
+    alloc: Global,
+    view: &SampleView,
+    query: &Query,
+    blank: Blank,
+) -> Mem<List<Rid>>
+    requires name { blank.name ≡ L.name }
+    requires parts { blank.parts ≡ L.parts }
+    requires some { 0 < blank.parts }
+{
+    let mut steps = Steps::<L>::new(blank);
+    select(alloc, view, query, &mut steps)
+}
+
+/// What a query selects.
+pub fn selected(alloc: Global, view: &SampleView, query: &Query) -> Mem<List<Rid>> {
+    counted::<Brand>(alloc, view, query, Blank::new(1))
+}
+
+/// Whether a query without keys selects these.
+fn selects(
+    alloc: Global,
+    view: &SampleView,
+    kind: Option<u32>,
+    filter: Option<Filter>,
+    wanted: &[Place],
+) -> Mem<bool> {
+    let sort = List::of(Vec::new(alloc));
+    let query = Query { kind, filter, sort };
+    let found = selected(alloc, view, &query)?;
+    Ok(found == ids(alloc, wanted)?)
+}
+
+static TYPES: [(&str, Option<u32>, &[Place]); 5] = [
+    (
+        "all types",
+        None,
+        &[(0, 1), (0, 2), (0, 3), (0, 4), (1, 1), (2, 3)],
+    ),
+    ("the first type", Some(0), &[(0, 1), (0, 2), (0, 3), (0, 4)]),
+    ("a type between others", Some(1), &[(1, 1)]),
+    ("the last type", Some(2), &[(2, 3)]),
+    ("a type without features", Some(3), &[]),
+];
+
+#[test]
+fn selects_the_features_of_a_type(rt: HostRuntime) -> Result<(), Fail> {
+    let alloc = rt.alloc();
+    let view = sample(alloc)?;
+    for row in TYPES.iter() {
+        let (what, kind, wanted) = *row;
+        assert!(rt; selects(alloc, &view, kind, None, wanted)?, "{what}");
+    }
+    Ok(())
+}
+
+fn equals(property: u32, value: Value) -> Filter {
+    Filter::Compare {
+        by: By::Equal,
+        left: Expr::Property(property),
+        right: Expr::Literal(value),
+        fold: false,
+    }
+}
+
+fn of_label(alloc: Global, label: &str) -> Mem<Filter> {
+    Ok(equals(LABEL, words(alloc, label)?))
+}
+
+fn not(alloc: Global, filter: Filter) -> Mem<Filter> {
+    Ok(Filter::Not(Boxed::new(alloc, filter)?))
+}
+
+/// Some identifiers, and among them nobody's.
+fn listed(alloc: Global, places: &[Place]) -> Mem<Filter> {
+    let mut all = Vec::new(alloc);
+    all.push(IdRef::Nobody)?;
+    for place in places {
+        let (kind, number) = *place;
+        all.push(IdRef::Known(Rid { kind, number }))?;
+    }
+    Ok(Filter::Ids(List::of(all)))
+}
+
+fn pair(alloc: Global, first: Filter, second: Filter) -> Mem<List<Filter>> {
+    let mut parts = Vec::new(alloc);
+    parts.push(first)?;
+    parts.push(second)?;
+    Ok(List::of(parts))
+}
+
+fn by_label(alloc: Global, view: &SampleView) -> Mem<bool> {
+    let filter = of_label(alloc, "A")?;
+    selects(alloc, view, None, Some(filter), &[(0, 2), (0, 3), (1, 1)])
+}
+
+/// A comparison with a null is false, and so its negation true.
+fn by_other_size(alloc: Global, view: &SampleView) -> Mem<bool> {
+    let filter = not(alloc, equals(SIZE, Value::Whole(1)))?;
+    selects(
+        alloc,
+        view,
+        Some(0),
+        Some(filter),
+        &[(0, 1), (0, 2), (0, 3)],
+    )
+}
+
+/// In default order, and each once.
+fn by_identifiers(alloc: Global, view: &SampleView) -> Mem<bool> {
+    let filter = listed(alloc, &[(1, 1), (0, 3), (0, 9), (0, 1), (0, 3)])?;
+    selects(alloc, view, None, Some(filter), &[(0, 1), (0, 3), (1, 1)])
+}
+
+fn by_no_identifier(alloc: Global, view: &SampleView) -> Mem<bool> {
+    let filter = listed(alloc, &[])?;
+    selects(alloc, view, None, Some(filter), &[])
+}
+
+fn by_other_identifiers(alloc: Global, view: &SampleView) -> Mem<bool> {
+    let ids = listed(alloc, &[(0, 3), (0, 1)])?;
+    let filter = not(alloc, ids)?;
+    selects(alloc, view, Some(0), Some(filter), &[(0, 2), (0, 4)])
+}
+
+/// Identifiers that stand behind another part.
+fn by_label_and_identifiers(alloc: Global, view: &SampleView) -> Mem<bool> {
+    let label = of_label(alloc, "A")?;
+    let ids = listed(alloc, &[(1, 1), (0, 1), (0, 2)])?;
+    let filter = Filter::Both(pair(alloc, label, ids)?);
+    selects(alloc, view, None, Some(filter), &[(0, 2), (1, 1)])
+}
+
+fn by_label_or_identifiers(alloc: Global, view: &SampleView) -> Mem<bool> {
+    let label = of_label(alloc, "b")?;
+    let ids = listed(alloc, &[(1, 1), (0, 1)])?;
+    let filter = Filter::Either(pair(alloc, label, ids)?);
+    selects(alloc, view, None, Some(filter), &[(0, 1), (0, 4), (1, 1)])
+}
+
+#[test]
+fn selects_what_passes_a_filter(rt: HostRuntime) -> Result<(), Fail> {
+    let alloc = rt.alloc();
+    let view = sample(alloc)?;
+    assert!(rt; by_label(alloc, &view)?);
+    assert!(rt; by_other_size(alloc, &view)?);
+    assert!(rt; by_identifiers(alloc, &view)?);
+    assert!(rt; by_no_identifier(alloc, &view)?);
+    assert!(rt; by_other_identifiers(alloc, &view)?);
+    assert!(rt; by_label_and_identifiers(alloc, &view)?);
+    assert!(rt; by_label_or_identifiers(alloc, &view)?);
+    Ok(())
+}
