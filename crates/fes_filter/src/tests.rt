@@ -143,38 +143,39 @@ fn negated(alloc: Global, part: Filter) -> Mem<Filter> {
     Ok(Filter::Not(Boxed::new(alloc, part)?))
 }
 
-fn both(alloc: Global, first: Filter, second: Filter) -> Mem<List<Filter>> {
-    let mut parts = Vec::new(alloc);
-    parts.push(first)?;
-    parts.push(second)?;
-    Ok(List::of(parts))
-}
-
 // The square between these corners.
 fn square(alloc: Global, low: i64, high: i64) -> Mem<Option<Ring>> {
     let mut corners = Vec::new(alloc);
-    for place in [
-        (low, low),
-        (high, low),
-        (high, high),
-        (low, high),
-        (low, low),
-    ] {
-        corners.push(at(place))?;
-    }
+    corners.push(at((low, low)))?;
+    corners.push(at((high, low)))?;
+    corners.push(at((high, high)))?;
+    corners.push(at((low, high)))?;
+    corners.push(at((low, low)))?;
     Ok(Ring::new(corners).ok())
+}
+
+// The hole from 2 to 4.
+fn holes(alloc: Global) -> Mem<Vec<Ring>> {
+    let mut holes = Vec::new(alloc);
+    if let Some(hole) = square(alloc, 2, 4)? {
+        holes.push(hole)?;
+    }
+    Ok(holes)
+}
+
+fn over(shell: Ring, holes: Vec<Ring>) -> Value {
+    match Polygon::new(shell, holes) {
+        Ok(area) => Value::Shape(Geometry::Over(area)),
+        Err(_) => Value::Null,
+    }
 }
 
 // The square from 0 to 10 with a hole from 2 to 4.
 fn field(alloc: Global) -> Mem<Value> {
-    let (Some(shell), Some(hole)) = (square(alloc, 0, 10)?, square(alloc, 2, 4)?) else {
-        return Ok(Value::Null);
-    };
-    let mut holes = Vec::new(alloc);
-    holes.push(hole)?;
-    Ok(match Polygon::new(shell, holes) {
-        Ok(area) => Value::Shape(Geometry::Over(area)),
-        Err(_) => Value::Null,
+    let holes = holes(alloc)?;
+    Ok(match square(alloc, 0, 10)? {
+        Some(shell) => over(shell, holes),
+        None => Value::Null,
     })
 }
 

@@ -1,18 +1,27 @@
 //! Texts that are like a pattern (OGC 09-026r2, section 7.7: PropertyIsLike).
 
-use super::truths::decided;
+use super::truths::settled;
 use super::*;
 
-/// The parts of a pattern with the wild card `*`, the single character `.` and the escape `!`.
+/// The part of a pattern that a character is: `*` is the wild card, `.` the single character and `!` the escape.
+fn part(c: char, is_escaped: bool) -> Option<LikePart> {
+    if is_escaped {
+        return Some(LikePart::Exactly(c));
+    }
+    match c {
+        '!' => None,
+        '*' => Some(LikePart::Many),
+        '.' => Some(LikePart::One),
+        _ => Some(LikePart::Exactly(c)),
+    }
+}
+
 fn parts(alloc: Global, text: &str) -> Mem<Vec<LikePart>> {
     let mut parts = Vec::new(alloc);
     let mut is_escaped = false;
     for c in text.chars() {
-        match (c, is_escaped) {
-            ('!', false) => {}
-            ('*', false) => parts.push(LikePart::Many)?,
-            ('.', false) => parts.push(LikePart::One)?,
-            _ => parts.push(LikePart::Exactly(c))?,
+        if let Some(part) = part(c, is_escaped) {
+            parts.push(part)?;
         }
         is_escaped = c == '!' && !is_escaped;
     }
@@ -40,20 +49,28 @@ static LIKES: [(&str, &str, bool); 18] = [
     ("*ab*ba*", "abba", true),
 ];
 
-fn is_like(alloc: Global, pattern: &str, text: &str) -> Mem<Option<bool>> {
-    let parts = parts(alloc, pattern)?;
-    let filter = like(alloc, LABEL, parts.as_slice())?;
-    decided(alloc, filter, text)
+fn pattern(alloc: Global, text: &str) -> Mem<Filter> {
+    let parts = parts(alloc, text)?;
+    like(alloc, LABEL, parts.as_slice())
+}
+
+fn is_like(alloc: Global, text: &str, filter: Filter) -> Mem<Option<bool>> {
+    let feature = mark(alloc, text)?;
+    settled(alloc, filter, &feature)
+}
+
+// The first row of `LIKES` of which something else is said.
+fn mistaken(alloc: Global) -> Mem<Option<usize>> {
+    for i in 0..LIKES.len() {
+        let (text, label, wanted) = LIKES[i];
+        if is_like(alloc, label, pattern(alloc, text)?)? != Some(wanted) {
+            return Ok(Some(i));
+        }
+    }
+    Ok(None)
 }
 
 #[test]
 fn likes(rt: HostRuntime) {
-    for row in LIKES.iter() {
-        let (pattern, text, want) = *row;
-        assert_eq!(rt;
-            is_like(rt.alloc(), pattern, text),
-            Ok(Some(want)),
-            "{text} like {pattern}"
-        );
-    }
+    assert_eq!(rt; mistaken(rt.alloc()), Ok(None));
 }

@@ -41,22 +41,16 @@ fn is_negation_true(alloc: Global, filter: Filter, feature: &Feature) -> Mem<boo
 }
 
 /// A filter's truth, where its negation has the opposite one.
-fn settled(alloc: Global, filter: Filter, feature: &Feature) -> Mem<Option<bool>> {
+pub fn settled(alloc: Global, filter: Filter, feature: &Feature) -> Mem<Option<bool>> {
     let holds = is_true(alloc, &filter, feature)?;
     let fails = is_negation_true(alloc, filter, feature)?;
     Ok(if holds == fails { None } else { Some(holds) })
 }
 
-/// The same, of a mark with this label.
-pub fn decided(alloc: Global, filter: Filter, label: &str) -> Mem<Option<bool>> {
-    let feature = mark(alloc, label)?;
-    settled(alloc, filter, &feature)
-}
-
-/// The truth of a filter of a mark with the label STRASSE.
-fn said(alloc: Global, sketch: Sketch) -> Mem<Option<bool>> {
+// Whether a filter is true of a feature or else false, as is wanted.
+fn is_said(alloc: Global, feature: &Feature, sketch: Sketch, wanted: bool) -> Mem<bool> {
     let filter = filter(alloc, sketch)?;
-    decided(alloc, filter, "STRASSE")
+    Ok(settled(alloc, filter, feature)? == Some(wanted))
 }
 
 /// What operators say of the size 5 and of a null, each on either side.
@@ -93,16 +87,25 @@ static RELATIONS: [(By, Side, Side, bool); 30] = [
     (GreaterEqual, Whole(5), At(DEPTH), false),
 ];
 
+// The first row of `RELATIONS` of which something else is said.
+fn mistaken_relation(alloc: Global, feature: &Feature) -> Mem<Option<usize>> {
+    for i in 0..RELATIONS.len() {
+        let (by, left, right, wanted) = RELATIONS[i];
+        if !is_said(alloc, feature, Compare(by, left, right, false), wanted)? {
+            return Ok(Some(i));
+        }
+    }
+    Ok(None)
+}
+
+fn mistaken_relation_of_mark(alloc: Global) -> Mem<Option<usize>> {
+    let feature = mark(alloc, "STRASSE")?;
+    mistaken_relation(alloc, &feature)
+}
+
 #[test]
 fn relations_of_numbers_and_nulls(rt: HostRuntime) {
-    for row in RELATIONS.iter() {
-        let (by, left, right, want) = *row;
-        assert_eq!(rt;
-            said(rt.alloc(), Compare(by, left, right, false)),
-            Ok(Some(want)),
-            "{by:?}"
-        );
-    }
+    assert_eq!(rt; mistaken_relation_of_mark(rt.alloc()), Ok(None));
 }
 
 /// What operators say of the label STRASSE and a text, with its case or, where that is set, without it.
@@ -117,16 +120,30 @@ static TEXTS: [(By, &str, bool, bool); 8] = [
     (Less, "Ä", false, true),
 ];
 
+// The first row of `TEXTS` of which something else is said.
+fn mistaken_text(alloc: Global, feature: &Feature) -> Mem<Option<usize>> {
+    for i in 0..TEXTS.len() {
+        let (by, text, fold, wanted) = TEXTS[i];
+        if !is_said(
+            alloc,
+            feature,
+            Compare(by, At(LABEL), Words(text), fold),
+            wanted,
+        )? {
+            return Ok(Some(i));
+        }
+    }
+    Ok(None)
+}
+
+fn mistaken_text_of_mark(alloc: Global) -> Mem<Option<usize>> {
+    let feature = mark(alloc, "STRASSE")?;
+    mistaken_text(alloc, &feature)
+}
+
 #[test]
 fn texts_by_their_bytes_or_without_case(rt: HostRuntime) {
-    for row in TEXTS.iter() {
-        let (by, text, fold, want) = *row;
-        assert_eq!(rt;
-            said(rt.alloc(), Compare(by, At(LABEL), Words(text), fold)),
-            Ok(Some(want)),
-            "{by:?} {text}"
-        );
-    }
+    assert_eq!(rt; mistaken_text_of_mark(rt.alloc()), Ok(None));
 }
 
 /// Of a mark with the label STRASSE.
@@ -178,12 +195,25 @@ static OTHERS: [(&str, Sketch, bool); 33] = [
     ("null apart", Apart(SPOT, (5, 5)), true),
 ];
 
+// What the first of `OTHERS` is of which something else is said.
+fn mistaken_other(alloc: Global, feature: &Feature) -> Mem<Option<&'static str>> {
+    for row in OTHERS.iter() {
+        let (name, sketch, wanted) = *row;
+        if !is_said(alloc, feature, sketch, wanted)? {
+            return Ok(Some(name));
+        }
+    }
+    Ok(None)
+}
+
+fn mistaken_other_of_mark(alloc: Global) -> Mem<Option<&'static str>> {
+    let feature = mark(alloc, "STRASSE")?;
+    mistaken_other(alloc, &feature)
+}
+
 #[test]
 fn other_operators(rt: HostRuntime) {
-    for row in OTHERS.iter() {
-        let (name, sketch, want) = *row;
-        assert_eq!(rt; said(rt.alloc(), sketch), Ok(Some(want)), "{name}");
-    }
+    assert_eq!(rt; mistaken_other_of_mark(rt.alloc()), Ok(None));
 }
 
 /// Two parts, and whether And or else Or of them is true: the size is no null, and the depth is one.
@@ -198,24 +228,38 @@ static PARTS: [(bool, u32, u32, bool); 8] = [
     (false, SIZE, SIZE, false),
 ];
 
-fn joined(alloc: Global, is_and: bool, first: u32, second: u32) -> Mem<Option<bool>> {
-    let parts = both(alloc, Filter::IsNull(first), Filter::IsNull(second))?;
-    let filter = if is_and {
-        Filter::Both(parts)
-    } else {
-        Filter::Either(parts)
-    };
-    decided(alloc, filter, "")
+fn null_checks(alloc: Global, first: u32, second: u32) -> Mem<List<Filter>> {
+    let mut parts = Vec::new(alloc);
+    parts.push(Filter::IsNull(first))?;
+    parts.push(Filter::IsNull(second))?;
+    Ok(List::of(parts))
+}
+
+fn joined(is_and: bool, parts: List<Filter>) -> Filter {
+    if is_and {
+        return Filter::Both(parts);
+    }
+    Filter::Either(parts)
+}
+
+// The first row of `PARTS` of which something else is said.
+fn mistaken_join(alloc: Global, feature: &Feature) -> Mem<Option<usize>> {
+    for i in 0..PARTS.len() {
+        let (is_and, first, second, wanted) = PARTS[i];
+        let filter = joined(is_and, null_checks(alloc, first, second)?);
+        if settled(alloc, filter, feature)? != Some(wanted) {
+            return Ok(Some(i));
+        }
+    }
+    Ok(None)
+}
+
+fn mistaken_join_of_mark(alloc: Global) -> Mem<Option<usize>> {
+    let feature = mark(alloc, "")?;
+    mistaken_join(alloc, &feature)
 }
 
 #[test]
 fn and_and_or(rt: HostRuntime) {
-    for row in PARTS.iter() {
-        let (is_and, first, second, want) = *row;
-        assert_eq!(rt;
-            joined(rt.alloc(), is_and, first, second),
-            Ok(Some(want)),
-            "{is_and} {first} {second}"
-        );
-    }
+    assert_eq!(rt; mistaken_join_of_mark(rt.alloc()), Ok(None));
 }
