@@ -1,9 +1,8 @@
 use super::*;
 use crate::tests::files::{ENDS, HEAD, LENGTHS, MARKS, RIGHT, WRONG};
-use feature_values::{Property, Schema, ValueKind};
+use feature_values::{FeatureType, Property, Schema, ValueKind};
 use std::alloc::Global;
-use std::test::Fail;
-use wfs_ends::Mem;
+use wfs_ends::{Mem, Text};
 
 mod files;
 
@@ -17,156 +16,265 @@ fn is_property(property: &Property, name: &str, kind: ValueKind, required: bool,
         && property.max == max
 }
 
+fn is_service(schema: &Schema) -> bool {
+    schema.title.as_str() == "Marks"
+        && schema.address.as_str() == "http://localhost:8080/wfs"
+        && schema.space.as_str() == "http://example.org/marks"
+        && schema.prefix.as_str() == "m"
+}
+
+fn is_srs(names: &[Text]) -> bool {
+    names.len() == 2
+        && names[0].as_str() == "urn:ogc:def:crs:EPSG::25832"
+        && names[1].as_str() == "EPSG:25832"
+}
+
+fn is_mark(all: &[Property]) -> bool {
+    all.len() == 3
+        && is_property(&all[0], "label", ValueKind::Words, true, 40)
+        && is_property(&all[1], "size", ValueKind::Whole, false, 4096)
+        && is_property(&all[2], "place", ValueKind::Point, false, 4096)
+}
+
+fn is_field(all: &[Property]) -> bool {
+    all.len() == 2
+        && is_property(&all[0], "name", ValueKind::Words, false, 4096)
+        && is_property(&all[1], "area", ValueKind::Polygon, false, 4096)
+}
+
+fn is_way(all: &[Property]) -> bool {
+    all.len() == 1 && is_property(&all[0], "course", ValueKind::Line, false, 4096)
+}
+
+fn are_types(types: &[FeatureType]) -> bool {
+    types.len() == 3
+        && is_mark(types[0].properties.items())
+        && is_field(types[1].properties.items())
+        && is_way(types[2].properties.items())
+}
+
+// The part of the schema of `MARKS` that is wrong.
+fn wrong_part(schema: &Schema) -> Option<&'static str> {
+    if !is_service(schema) {
+        return Some("the service");
+    }
+    if !is_srs(schema.srs.items()) {
+        return Some("the reference system");
+    }
+    if !are_types(schema.types.items()) {
+        return Some("the types");
+    }
+    None
+}
+
+fn misread_part(alloc: Global) -> Option<&'static str> {
+    match read_schema(alloc, MARKS.as_bytes()) {
+        Ok(schema) => wrong_part(&schema),
+        Err(_) => Some("the file"),
+    }
+}
+
+fn is_signature(alloc: Global, schema: &Schema) -> Mem<bool> {
+    let text = signature(alloc, schema)?;
+    Ok(text.as_str() == SIGNATURE)
+}
+
+fn is_signed(alloc: Global) -> Mem<bool> {
+    match read_schema(alloc, MARKS.as_bytes()) {
+        Ok(schema) => is_signature(alloc, &schema),
+        Err(_) => Ok(false),
+    }
+}
+
 #[test]
-fn reads_and_signs_a_schema(rt: HostRuntime) -> Result<(), Fail> {
-    let schema = read_schema(rt.alloc(), MARKS.as_bytes())?;
-    assert_eq!(rt; schema.title.as_str(), "Marks");
-    assert_eq!(rt; schema.address.as_str(), "http://localhost:8080/wfs");
-    assert_eq!(rt; schema.space.as_str(), "http://example.org/marks");
-    assert_eq!(rt; schema.prefix.as_str(), "m");
-    let srs = ["urn:ogc:def:crs:EPSG::25832", "EPSG:25832"];
-    assert_eq!(rt; schema.srs.items().len(), 2);
-    for (name, wanted) in schema.srs.items().iter().zip(srs) {
-        assert_eq!(rt; name.as_str(), wanted);
-    }
-    assert_eq!(rt; schema.types.items().len(), 3);
-    let all = schema
-        .types
-        .items()
-        .iter()
-        .flat_map(|t| t.properties.items().iter());
-    let wanted = [
-        ("label", ValueKind::Words, true, 40),
-        ("size", ValueKind::Whole, false, 4096),
-        ("place", ValueKind::Point, false, 4096),
-        ("name", ValueKind::Words, false, 4096),
-        ("area", ValueKind::Polygon, false, 4096),
-        ("course", ValueKind::Line, false, 4096),
-    ];
-    for (property, (name, kind, required, max)) in all.zip(wanted) {
-        assert!(rt; is_property(property, name, kind, required, max), "{name}");
-    }
+fn reads_and_signs_a_schema(rt: HostRuntime) {
+    assert_eq!(rt; misread_part(rt.alloc()), None);
     assert_eq!(rt; SIGNATURE.len(), 89);
-    assert_eq!(rt; signature(rt.alloc(), &schema)?.as_str(), SIGNATURE);
-    Ok(())
+    assert_eq!(rt; is_signed(rt.alloc()), Ok(true));
 }
 
-fn joined(alloc: Global, word: &str, name: &str) -> Mem<String> {
-    Ok(format!(in alloc; "{word}{name}")?)
-}
-
-// The line by which a refused file is told, behind `schema refused: `, or `Ok`.
-fn line_of(alloc: Global, read: Result<Schema, SchemaFault>) -> Mem<String> {
-    match read {
-        Ok(_) => joined(alloc, "Ok", ""),
-        Err(SchemaFault::NotToml) => joined(alloc, "NotToml", ""),
-        Err(SchemaFault::Key(key)) => joined(alloc, "Key ", key.as_str()),
-        Err(SchemaFault::Kind(property)) => joined(alloc, "Kind ", property.as_str()),
-        Err(SchemaFault::Twice(name)) => joined(alloc, "Twice ", name.as_str()),
-        Err(SchemaFault::TooMany) => joined(alloc, "TooMany", ""),
-        Err(SchemaFault::OutOfMemory) => joined(alloc, "OutOfMemory", ""),
+// The line by which a fault is told, behind `schema refused: `, in two parts.
+fn line_of(fault: &SchemaFault) -> (&'static str, &str) {
+    match fault {
+        SchemaFault::NotToml => ("NotToml", ""),
+        SchemaFault::Key(key) => ("Key ", key.as_str()),
+        SchemaFault::Kind(property) => ("Kind ", property.as_str()),
+        SchemaFault::Twice(name) => ("Twice ", name.as_str()),
+        SchemaFault::TooMany => ("TooMany", ""),
+        SchemaFault::OutOfMemory => ("OutOfMemory", ""),
     }
 }
 
-fn told(alloc: Global, file: &str) -> Mem<String> {
-    line_of(alloc, read_schema(alloc, file.as_bytes()))
+fn is_line(fault: &SchemaFault, line: &str) -> bool {
+    let (word, name) = line_of(fault);
+    match line.strip_prefix(word) {
+        Some(rest) => rest == name,
+        None => false,
+    }
 }
 
-// How `MARKS` is told with one of its texts replaced.
-fn told_with(alloc: Global, old: &str, new: &str) -> Mem<String> {
+// Whether a file is told by this line, or by `Ok`.
+fn is_told(alloc: Global, file: &[u8], line: &str) -> bool {
+    match read_schema(alloc, file) {
+        Ok(_) => line == "Ok",
+        Err(fault) => is_line(&fault, line),
+    }
+}
+
+fn joined(alloc: Global, start: &str, middle: &str, end: &str) -> Mem<String> {
+    let mut text = String::new(alloc);
+    text.push_str(start)?;
+    text.push_str(middle)?;
+    text.push_str(end)?;
+    Ok(text)
+}
+
+// Whether `MARKS` with one of its texts replaced is told by this line.
+fn is_told_with(alloc: Global, old: &str, new: &str, line: &str) -> Mem<bool> {
     let Some((before, behind)) = MARKS.split_once(old) else {
-        return Ok(format!(in alloc; "{old} stands nowhere")?);
+        return Ok(false);
     };
-    let file = format!(in alloc; "{before}{new}{behind}")?;
-    told(alloc, file.as_str())
+    let file = joined(alloc, before, new, behind)?;
+    Ok(is_told(alloc, file.as_bytes(), line))
 }
 
-fn is_told(alloc: Global, old: &str, new: &str, line: &str) -> Mem<bool> {
-    Ok(told_with(alloc, old, new)?.as_str() == line)
+// What the first of these files is that is told by another line.
+fn mistold(
+    alloc: Global,
+    rows: &[(&'static str, &'static str, &'static str, &'static str)],
+) -> Mem<Option<&'static str>> {
+    for row in rows {
+        let (what, old, new, line) = *row;
+        if !is_told_with(alloc, old, new, line)? {
+            return Ok(Some(what));
+        }
+    }
+    Ok(None)
 }
 
-// The same with a text of so many characters.
-fn is_told_at(alloc: Global, old: &str, character: &str, count: usize, line: &str) -> Mem<bool> {
+#[test]
+fn names_what_is_wrong_with_a_file(rt: HostRuntime) {
+    assert_eq!(rt; mistold(rt.alloc(), &WRONG), Ok(None));
+}
+
+#[test]
+fn takes_what_is_right_in_a_file(rt: HostRuntime) {
+    assert_eq!(rt; mistold(rt.alloc(), &RIGHT), Ok(None));
+}
+
+// The same of one text that is replaced by so many of a character.
+fn is_counted(alloc: Global, old: &str, character: &str, count: usize, line: &str) -> Mem<bool> {
     let text = character.repeat(alloc, count)?;
-    let new = joined(alloc, "\"", text.as_str())?;
-    let new = joined(alloc, new.as_str(), "\"")?;
-    is_told(alloc, old, new.as_str(), line)
+    let new = joined(alloc, "\"", text.as_str(), "\"")?;
+    is_told_with(alloc, old, new.as_str(), line)
 }
 
-#[test]
-fn names_what_is_wrong_with_a_file(rt: HostRuntime) -> Result<(), Fail> {
-    for row in WRONG.iter() {
-        let (what, old, new, line) = *row;
-        assert!(rt; is_told(rt.alloc(), old, new, line)?, "{what}");
+// The first row of `LENGTHS` that is told by another line.
+fn miscounted(alloc: Global) -> Mem<Option<usize>> {
+    for i in 0..LENGTHS.len() {
+        let (old, character, count, line) = LENGTHS[i];
+        if !is_counted(alloc, old, character, count, line)? {
+            return Ok(Some(i));
+        }
     }
-    Ok(())
+    Ok(None)
 }
 
 #[test]
-fn takes_what_is_right_in_a_file(rt: HostRuntime) -> Result<(), Fail> {
-    for row in RIGHT.iter() {
-        let (what, old, new, line) = *row;
-        assert!(rt; is_told(rt.alloc(), old, new, line)?, "{what}");
-    }
-    Ok(())
+fn counts_the_characters_of_a_text(rt: HostRuntime) {
+    assert_eq!(rt; miscounted(rt.alloc()), Ok(None));
 }
 
-#[test]
-fn counts_the_characters_of_a_text(rt: HostRuntime) -> Result<(), Fail> {
-    for row in LENGTHS.iter() {
-        let (old, character, count, line) = *row;
-        assert!(rt;
-            is_told_at(rt.alloc(), old, character, count, line)?,
-            "{old} {count}"
-        );
-    }
-    Ok(())
+// Whether `HEAD` and this end are told by this line.
+fn is_end_told(alloc: Global, end: &str, line: &str) -> Mem<bool> {
+    let file = joined(alloc, HEAD, end, "")?;
+    Ok(is_told(alloc, file.as_bytes(), line))
 }
 
-#[test]
-fn names_the_first_fault_of_a_file(rt: HostRuntime) -> Result<(), Fail> {
+// The first end of `ENDS` that is told by another line.
+fn mistold_end(alloc: Global) -> Mem<Option<&'static str>> {
     for row in ENDS.iter() {
         let (end, line) = *row;
-        let file = format!(in rt.alloc(); "{HEAD}{end}")?;
-        assert_eq!(rt; told(rt.alloc(), file.as_str())?.as_str(), line, "{end}");
+        if !is_end_told(alloc, end, line)? {
+            return Ok(Some(end));
+        }
     }
-    let read = read_schema(rt.alloc(), b"title = \"\xff\"");
-    assert_eq!(rt; read, Err(SchemaFault::NotToml));
-    Ok(())
-}
-
-// So many types, or so many properties of one type, behind some keys.
-fn many(alloc: Global, keys: &str, open: &str, item: &str, close: &str, count: u32) -> Mem<String> {
-    let mut file = String::new(alloc);
-    file.push_str(HEAD)?;
-    file.push_str(keys)?;
-    file.push_str(open)?;
-    for n in 0..count {
-        let name = format!(in alloc; "{{name=\"a{n}\",{item}}},")?;
-        file.push_str(name.as_str())?;
-    }
-    file.push_str(close)?;
-    Ok(file)
+    Ok(None)
 }
 
 #[test]
-fn counts_types_and_properties(rt: HostRuntime) -> Result<(), Fail> {
-    let one = "type=[{name=\"A\",property=[";
-    let nameless = "type=[{property=[";
-    let cases = [
-        ("", "type=[", "property=[]", "]", 64, "Ok"),
-        ("", "type=[", "property=[]", "]", 65, "TooMany"),
-        ("", "type=[", "bar=1", "]", 65, "TooMany"),
-        ("zoo=1\n", "type=[", "property=[]", "]", 65, "Key zoo"),
-        ("", one, "kind=\"line\"", "]}]", 64, "Ok"),
-        ("", one, "kind=\"line\"", "]}]", 65, "TooMany"),
-        ("", one, "kind=\"x\"", "]}]", 65, "TooMany"),
-        ("", nameless, "kind=\"x\"", "]}]", 65, "Key name"),
-    ];
-    for (keys, open, item, close, count, line) in cases {
-        let file = many(rt.alloc(), keys, open, item, close, count)?;
-        let told = told(rt.alloc(), file.as_str())?;
-        assert_eq!(rt; told.as_str(), line, "{open}{count}");
-    }
+fn names_the_first_fault_of_a_file(rt: HostRuntime) {
+    assert_eq!(rt; mistold_end(rt.alloc()), Ok(None));
+    assert!(rt; is_told(rt.alloc(), b"title = \"\xff\"", "NotToml"));
+}
+
+fn add_item(file: &mut String, number: u32, item: &str) -> Mem<()> {
+    file.push_str("{name=\"a")?;
+    write!(file, "{number}")?;
+    file.push_str("\",")?;
+    file.push_str(item)?;
+    file.push_str("},")?;
     Ok(())
+}
+
+// So many types, or so many properties of one type.
+fn items(alloc: Global, item: &str, count: u32) -> Mem<String> {
+    let mut all = String::new(alloc);
+    for number in 0..count {
+        add_item(&mut all, number, item)?;
+    }
+    Ok(all)
+}
+
+// What stands behind `HEAD`: an opening text, so many of an item with names of their own, and a closing text; and the line.
+static COUNTS: [(&str, &str, &str, u32, &str); 8] = [
+    ("type=[", "property=[]", "]", 64, "Ok"),
+    ("type=[", "property=[]", "]", 65, "TooMany"),
+    ("type=[", "bar=1", "]", 65, "TooMany"),
+    ("zoo=1\ntype=[", "property=[]", "]", 65, "Key zoo"),
+    (
+        "type=[{name=\"A\",property=[",
+        "kind=\"line\"",
+        "]}]",
+        64,
+        "Ok",
+    ),
+    (
+        "type=[{name=\"A\",property=[",
+        "kind=\"line\"",
+        "]}]",
+        65,
+        "TooMany",
+    ),
+    (
+        "type=[{name=\"A\",property=[",
+        "kind=\"x\"",
+        "]}]",
+        65,
+        "TooMany",
+    ),
+    ("type=[{property=[", "kind=\"x\"", "]}]", 65, "Key name"),
+];
+
+// Whether the file of a row is told by the row's line.
+fn is_number_told(alloc: Global, row: &(&str, &str, &str, u32, &str)) -> Mem<bool> {
+    let (open, item, close, count, line) = *row;
+    let items = items(alloc, item, count)?;
+    let rest = joined(alloc, open, items.as_str(), close)?;
+    is_end_told(alloc, rest.as_str(), line)
+}
+
+// The first row of `COUNTS` that is told by another line.
+fn misnumbered(alloc: Global) -> Mem<Option<usize>> {
+    for i in 0..COUNTS.len() {
+        if !is_number_told(alloc, &COUNTS[i])? {
+            return Ok(Some(i));
+        }
+    }
+    Ok(None)
+}
+
+#[test]
+fn counts_types_and_properties(rt: HostRuntime) {
+    assert_eq!(rt; misnumbered(rt.alloc()), Ok(None));
 }
