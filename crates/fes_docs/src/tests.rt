@@ -8,48 +8,59 @@ mod writing;
 use super::*;
 use doc_tree::{Attribute, Element, QName};
 use feature_values::{FeatureType, Property, Schema, ValueKind};
+use fes_filter::Filter;
 use std::alloc::Global;
 use wfs_ends::{List, Mem, Text};
 
 // ---- a schema
 
-fn property(alloc: Global, all: &mut Vec<Property>, name: &str, kind: ValueKind) -> Mem<()> {
-    all.push(Property {
+fn texts(alloc: Global, words: &[&str]) -> Mem<List<Text>> {
+    let mut all = Vec::new(alloc);
+    for word in words {
+        all.push(Text::of(alloc, word)?)?;
+    }
+    Ok(List::of(all))
+}
+
+fn property(alloc: Global, name: &str, kind: ValueKind) -> Mem<Property> {
+    Ok(Property {
         name: Text::of(alloc, name)?,
         kind,
         required: false,
         max: 3,
-    })?;
-    Ok(())
-}
-
-// A type of marks: a label, a size, a place, whether it is lit, and another name.
-fn marks(alloc: Global) -> Mem<FeatureType> {
-    let mut all = Vec::new(alloc);
-    property(alloc, &mut all, "label", ValueKind::Words)?;
-    property(alloc, &mut all, "size", ValueKind::Whole)?;
-    property(alloc, &mut all, "place", ValueKind::Point)?;
-    property(alloc, &mut all, "lit", ValueKind::Truth)?;
-    property(alloc, &mut all, "other", ValueKind::Words)?;
-    Ok(FeatureType {
-        name: Text::of(alloc, "Mark")?,
-        properties: List::of(all),
     })
 }
 
-fn schema(alloc: Global) -> Mem<Schema> {
+static PROPERTIES: [(&str, ValueKind); 5] = [
+    ("label", ValueKind::Words),
+    ("size", ValueKind::Whole),
+    ("place", ValueKind::Point),
+    ("lit", ValueKind::Truth),
+    ("other", ValueKind::Words),
+];
+
+// A type of marks: a label, a size, a place, whether it is lit, and another name.
+fn marks(alloc: Global) -> Mem<List<FeatureType>> {
+    let mut all = Vec::new(alloc);
+    for (name, kind) in PROPERTIES.iter() {
+        all.push(property(alloc, name, *kind)?)?;
+    }
     let mut types = Vec::new(alloc);
-    types.push(marks(alloc)?)?;
-    let mut srs = Vec::new(alloc);
-    srs.push(Text::of(alloc, "urn:ogc:def:crs:EPSG::25832")?)?;
-    srs.push(Text::of(alloc, "EPSG:25832")?)?;
+    types.push(FeatureType {
+        name: Text::of(alloc, "Mark")?,
+        properties: List::of(all),
+    })?;
+    Ok(List::of(types))
+}
+
+fn schema(alloc: Global) -> Mem<Schema> {
     Ok(Schema {
         title: Text::of(alloc, "Marks")?,
         address: Text::of(alloc, "http://localhost:8080/wfs")?,
         space: Text::of(alloc, "http://example.org/marks")?,
         prefix: Text::of(alloc, "m")?,
-        srs: List::of(srs),
-        types: List::of(types),
+        srs: texts(alloc, &["urn:ogc:def:crs:EPSG::25832", "EPSG:25832"])?,
+        types: marks(alloc)?,
     })
 }
 
@@ -65,21 +76,39 @@ struct Open {
     text: Text,
 }
 
-fn name_of(alloc: Global, word: &str) -> Mem<QName> {
-    let (space, local) = match word.split_once(':') {
-        None => ("http://www.opengis.net/fes/2.0", word),
-        Some(("gml", local)) => ("http://www.opengis.net/gml/3.2", local),
-        Some((_, local)) => ("http://example.org/other", local),
-    };
+// The parts of a word before and behind a mark, the second empty where there is no mark.
+fn parts(word: &str, mark: char) -> (&str, &str) {
+    match word.split_once(mark) {
+        None => (word, ""),
+        Some(parts) => parts,
+    }
+}
+
+fn space_of(prefix: &str) -> &'static str {
+    if prefix == "gml" {
+        return "http://www.opengis.net/gml/3.2";
+    }
+    "http://example.org/other"
+}
+
+fn qualified(alloc: Global, space: &str, local: &str) -> Mem<QName> {
     Ok(QName {
         space: Text::of(alloc, space)?,
         local: Text::of(alloc, local)?,
     })
 }
 
+// The name that a word gives, which is in this namespace where it has no prefix.
+fn name_of(alloc: Global, word: &str, space: &str) -> Mem<QName> {
+    match word.split_once(':') {
+        None => qualified(alloc, space, word),
+        Some((prefix, local)) => qualified(alloc, space_of(prefix), local),
+    }
+}
+
 fn opened(alloc: Global, word: &str, text: &str) -> Mem<Open> {
     Ok(Open {
-        name: name_of(alloc, word)?,
+        name: name_of(alloc, word, "http://www.opengis.net/fes/2.0")?,
         attributes: Vec::new(alloc),
         children: Vec::new(alloc),
         text: Text::of(alloc, text)?,
@@ -87,35 +116,23 @@ fn opened(alloc: Global, word: &str, text: &str) -> Mem<Open> {
 }
 
 fn closed(open: Open) -> Element {
-    let Open {
-        name,
-        attributes,
-        children,
-        text,
-    } = open;
     Element {
-        name,
-        attributes: List::of(attributes),
-        children: List::of(children),
-        text,
+        name: open.name,
+        attributes: List::of(open.attributes),
+        children: List::of(open.children),
+        text: open.text,
     }
 }
 
+fn leaf(alloc: Global, word: &str) -> Mem<Element> {
+    let (name, text) = parts(word, '=');
+    Ok(closed(opened(alloc, name, text)?))
+}
+
 fn attribute(alloc: Global, word: &str) -> Mem<Attribute> {
-    let (local, value) = match word.split_once('=') {
-        None => (word, ""),
-        Some(parts) => parts,
-    };
-    let (space, local) = match local.split_once(':') {
-        None => ("", local),
-        Some(("gml", local)) => ("http://www.opengis.net/gml/3.2", local),
-        Some((_, local)) => ("http://example.org/other", local),
-    };
+    let (name, value) = parts(word, '=');
     Ok(Attribute {
-        name: QName {
-            space: Text::of(alloc, space)?,
-            local: Text::of(alloc, local)?,
-        },
+        name: name_of(alloc, name, "")?,
         value: Text::of(alloc, value)?,
     })
 }
@@ -131,46 +148,67 @@ fn put(element: Element, open: &mut Vec<Open>) -> Mem<Option<Element>> {
     }
 }
 
-fn inside(alloc: Global, word: &str, open: &mut Vec<Open>) -> Mem<()> {
+fn begin(alloc: Global, name: &str, open: &mut Vec<Open>) -> Mem<()> {
+    open.push(opened(alloc, name, "")?)?;
+    Ok(())
+}
+
+fn end(open: &mut Vec<Open>) -> Mem<Option<Element>> {
+    match open.pop() {
+        None => Ok(None),
+        Some(done) => put(closed(done), open),
+    }
+}
+
+fn put_attribute(alloc: Global, word: &str, open: &mut Vec<Open>) -> Mem<()> {
     if let Some(parent) = open.last_mut() {
-        if let Some(rest) = word.strip_prefix('@') {
-            parent.attributes.push(attribute(alloc, rest)?)?;
-        } else if let Some(text) = word.strip_prefix('=') {
-            parent.text = Text::of(alloc, text)?;
-        }
+        parent.attributes.push(attribute(alloc, word)?)?;
     }
     Ok(())
 }
 
-fn next_word(alloc: Global, word: &str, open: &mut Vec<Open>) -> Mem<Option<Element>> {
-    if word.is_empty() {
-        return Ok(None);
+fn put_text(alloc: Global, text: &str, open: &mut Vec<Open>) -> Mem<()> {
+    if let Some(parent) = open.last_mut() {
+        parent.text = Text::of(alloc, text)?;
     }
-    if let Some(name) = word.strip_suffix('(') {
-        open.push(opened(alloc, name, "")?)?;
-        return Ok(None);
+    Ok(())
+}
+
+// Takes a word that says something of the element that is open.
+fn inside(alloc: Global, word: &str, open: &mut Vec<Open>) -> Mem<()> {
+    if let Some(rest) = word.strip_prefix('@') {
+        return put_attribute(alloc, rest, open);
     }
+    match word.strip_prefix('=') {
+        None => Ok(()),
+        Some(text) => put_text(alloc, text, open),
+    }
+}
+
+// Takes a word that ends an element.
+fn ending(alloc: Global, word: &str, open: &mut Vec<Open>) -> Mem<Option<Element>> {
     if word == ")" {
-        return match open.pop() {
-            None => Ok(None),
-            Some(done) => put(closed(done), open),
-        };
+        return end(open);
     }
-    if word.starts_with('@') || word.starts_with('=') {
+    put(leaf(alloc, word)?, open)
+}
+
+// The element that a word ends, where it stands in no other.
+fn next_word(alloc: Global, word: &str, open: &mut Vec<Open>) -> Mem<Option<Element>> {
+    if let Some(name) = word.strip_suffix('(') {
+        begin(alloc, name, open)?;
+        return Ok(None);
+    }
+    if word.is_empty() || word.starts_with('@') || word.starts_with('=') {
         inside(alloc, word, open)?;
         return Ok(None);
     }
-    let (name, text) = match word.split_once('=') {
-        None => (word, ""),
-        Some(parts) => parts,
-    };
-    let leaf = closed(opened(alloc, name, text)?);
-    put(leaf, open)
+    ending(alloc, word, open)
 }
 
 fn tree(alloc: Global, words: &str) -> Mem<Element> {
     let mut open = Vec::new(alloc);
-    let mut root = closed(opened(alloc, "x:none", "")?);
+    let mut root = leaf(alloc, "x:none")?;
     for word in words.split('|') {
         if let Some(whole) = next_word(alloc, word, &mut open)? {
             root = whole;
@@ -184,48 +222,62 @@ fn whole(alloc: Global, words: &str) -> Mem<Element> {
     tree(alloc, text.as_str())
 }
 
-fn parameters(alloc: Global) -> Mem<List<Text>> {
-    let mut names = Vec::new(alloc);
-    names.push(Text::of(alloc, "id")?)?;
-    names.push(Text::of(alloc, "text")?)?;
-    Ok(List::of(names))
-}
-
 // ---- what is read
 
-fn shown(alloc: Global, read: Result<fes_filter::Filter, FilterDocFault>) -> Mem<String> {
-    match read {
-        Ok(filter) => Ok(format!(in alloc; "{:?}", filter)?),
-        Err(fault) => {
-            let (row, locator) = fault.refusal();
-            Ok(format!(in alloc; "{row} {locator}")?)
+// The parameters of stored texts.
+fn parameters(alloc: Global) -> Mem<List<Text>> {
+    texts(alloc, &["id", "text"])
+}
+
+// The filter of an element, for the type of marks and with these parameters, if any are named.
+fn read(
+    alloc: Global,
+    element: &Element,
+    names: Option<&List<Text>>,
+    schema: &Schema,
+) -> Result<Filter, FilterDocFault> {
+    match names {
+        None => read_filter(alloc, element, Some(0), schema),
+        Some(names) => read_filter_in(alloc, element, Some(0), names, schema),
+    }
+}
+
+fn shown(alloc: Global, filter: &Filter) -> Mem<String> {
+    Ok(format!(in alloc; "{:?}", filter)?)
+}
+
+fn refused(alloc: Global, fault: &FilterDocFault) -> Mem<String> {
+    let (row, locator) = fault.refusal();
+    Ok(format!(in alloc; "{row} {locator}")?)
+}
+
+// What is read of the filter within an element Filter.
+fn told(alloc: Global, words: &str, names: Option<&List<Text>>) -> Mem<String> {
+    let schema = schema(alloc)?;
+    let element = whole(alloc, words)?;
+    match read(alloc, &element, names, &schema) {
+        Ok(filter) => shown(alloc, &filter),
+        Err(fault) => refused(alloc, &fault),
+    }
+}
+
+fn is_told(alloc: Global, words: &str, names: Option<&List<Text>>, wanted: &str) -> bool {
+    match told(alloc, words, names) {
+        Ok(found) => found.as_str() == wanted,
+        Err(_) => false,
+    }
+}
+
+// The words of the first row of a table of which something else is read than it says.
+fn first_misread<'a>(
+    alloc: Global,
+    names: Option<&List<Text>>,
+    rows: &[(&'a str, &'a str)],
+) -> Option<&'a str> {
+    for (words, wanted) in rows {
+        if !is_told(alloc, words, names, wanted) {
+            return Some(words);
         }
     }
-}
-
-// What was told, if it is not what was wanted.
-fn other(told: Mem<String>, wanted: &str) -> Mem<Option<Text>> {
-    let found = told?;
-    if found.as_str() == wanted {
-        return Ok(None);
-    }
-    Ok(Some(Text::of_string(found)))
-}
-
-// The filter within an element Filter, for the type of marks.
-fn told(alloc: Global, words: &str) -> Mem<String> {
-    let schema = schema(alloc)?;
-    let element = whole(alloc, words)?;
-    shown(alloc, read_filter(alloc, &element, Some(0), &schema))
-}
-
-// The same with the parameters `id` and `text`.
-fn told_in(alloc: Global, words: &str) -> Mem<String> {
-    let schema = schema(alloc)?;
-    let element = whole(alloc, words)?;
-    let parameters = parameters(alloc)?;
-    shown(
-        alloc,
-        read_filter_in(alloc, &element, Some(0), &parameters, &schema),
-    )
+    None
 }
