@@ -1,10 +1,10 @@
 -- The sides of a comparison, and the bounds of a range, read back as they were written.
-use Rattle.std.proofs.Common.{◌≡◌, ◌⊎◌, inl, inr, ℕ, Bool, true, false, List, [], ◌∷◌, Option, Some, None, Result, Ok, Err, refl, sym, ap, subst, ◌∙◌}
+use Rattle.std.proofs.Common.{◌≡◌, ◌⊎◌, inl, inr, ℕ, Bool, true, false, List, Option, Result, Ok, Err, refl, sym, ap, ◌∙◌}
 use Rattle.std.specs.Prelude.{codes, if◌then◌else◌}
 use Rattle.std.specs.List.{list_any}
 use Rattle.wfs_ends.specs.Read.{◌>>=◌}
 use Rattle.wfs_ends.proofs.Turns.{bind_ok, ok_is}
-use Rattle.doc_tree.specs.declared.tree.Element.{Element, out-Element}
+use Rattle.doc_tree.specs.declared.tree.Element.{Element}
 use Rattle.feature_values.specs.Ids.{is_colon}
 use Rattle.feature_values.specs.declared.schema.ValueKind.{ValueKind}
 use Rattle.feature_values.specs.declared.schema.FeatureType.{FeatureType}
@@ -14,13 +14,13 @@ use Rattle.fes_filter.specs.declared.expr.Expr.{Expr}
 use Rattle.fes_filter.specs.declared.expr.Expr.TheVariants.{Property, Literal, Parameter}
 use Rattle.fes_filter.specs.declared.expr.By.{By}
 use Rattle.fes_docs.specs.declared.fault.FilterDocFault.{FilterDocFault}
-use Rattle.fes_docs.specs.Names.{is_fes, local_of, text_of, named, no_more, plain, missing}
+use Rattle.fes_docs.specs.Names.{is_fes, text_of, named, plain}
 use Rattle.fes_docs.specs.Uses.{place_of}
 use Rattle.fes_docs.specs.Sides.{property_at, suited, comparable_at, literal_as, literal_at, beside}
 use Rattle.fes_docs.specs.Written.{leaf, reference, side}
-use Rattle.fes_docs.proofs.Built.{no_more_at_end, leaf_named, leaf_text, leaf_plain}
+use Rattle.fes_docs.proofs.Built.{leaf_named, leaf_text, leaf_plain}
 use Rattle.fes_docs.proofs.Named.{reference_again, is_reference}
-use Rattle.fes_docs.proofs.Places.{literal_text, IsLiteral, Again, literal_again}
+use Rattle.fes_docs.proofs.Places.{literal_text, IsLiteral, literal_again}
 
 -- what stands where one of two names is allowed
 pub one_of_two : {A : Type 0} (b c : Bool) (first second : Result A FilterDocFault) (fault : FilterDocFault) (x : A)

@@ -1,6 +1,5 @@
 -- What the readers see of an element that was written.
-use Rattle.std.proofs.Common.{◌≡◌, ℕ, Bool, true, false, ◌&&◌, List, [], ◌∷◌, None, Result, Ok, Err, refl, sym, ap, ◌∙◌}
-use Rattle.std.specs.Prelude.{codes}
+use Rattle.std.proofs.Common.{◌≡◌, ℕ, List, [], Ok, refl, ap}
 use Rattle.std.specs.Str.{bytes_eq}
 use Rattle.doc_tree.specs.declared.tree.QName.{QName}
 use Rattle.doc_tree.specs.declared.tree.Attribute.{Attribute}
@@ -9,8 +8,8 @@ use Rattle.doc_tree.specs.declared.tree.Element.TheOpen.{Element-F}
 use Rattle.doc_tree.specs.declared.tree.Element.TheViews.{out-roll-Element}
 use Rattle.doc_attributes.specs.Names.{is_name, value_at}
 use Rattle.doc_attributes.specs.Others.{first_other}
-use Rattle.fes_docs.specs.Names.{fes_space, is_fes, local_of, text_of, value_of, refused, no_others, named, no_more, plain}
-use Rattle.fes_docs.specs.Written.{element, leaf, parent, attribute}
+use Rattle.fes_docs.specs.Names.{fes_space, is_fes, text_of, value_of, refused, no_others, no_more, plain}
+use Rattle.fes_docs.specs.Written.{element, leaf, parent}
 
 module _ (local : List ℕ) (attributes : List Attribute) (children : List Element) (text : List ℕ) where
   abbrev e : Element

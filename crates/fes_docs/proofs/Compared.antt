@@ -1,5 +1,5 @@
 -- Comparisons read back as they were written.
-use Rattle.std.proofs.Common.{◌≡◌, ◌⊎◌, inl, inr, ℕ, Bool, true, false, ◌&&◌, not, List, [], ◌∷◌, Option, Some, None, Result, Ok, Err, refl, sym, ap, subst, ◌∙◌}
+use Rattle.std.proofs.Common.{◌≡◌, ◌⊎◌, inl, inr, ℕ, Bool, true, false, List, [], ◌∷◌, Option, Some, None, Ok, Err, refl, sym, ap, subst, ◌∙◌}
 use Rattle.std.specs.Prelude.{codes, if◌then◌else◌}
 use Rattle.std.specs.List.{list_any}
 use Rattle.std.specs.Str.{bytes_eq}
@@ -11,20 +11,18 @@ use Rattle.feature_values.specs.Ids.{is_colon}
 use Rattle.feature_values.specs.declared.schema.ValueKind.{ValueKind}
 use Rattle.feature_values.specs.declared.schema.FeatureType.{FeatureType}
 use Rattle.feature_values.specs.declared.schema.Schema.{Schema}
-use Rattle.fes_filter.specs.Check.{type_in, is_words, is_equality}
+use Rattle.fes_filter.specs.Check.{type_in, is_equality}
 use Rattle.fes_filter.specs.declared.expr.Expr.{Expr}
 use Rattle.fes_filter.specs.declared.expr.Expr.TheVariants.{Property}
 use Rattle.fes_filter.specs.declared.expr.By.{By}
 use Rattle.fes_filter.specs.declared.filter.Filter.{Filter}
 use Rattle.fes_filter.specs.declared.filter.Filter.TheVariants.{Compare}
-use Rattle.fes_filter.specs.declared.fault.FilterFault.TheVariants.{Choice}
 use Rattle.fes_docs.specs.declared.fault.FilterDocFault.{FilterDocFault}
-use Rattle.fes_docs.specs.declared.fault.FilterDocFault.TheVariants.{Operator, Checked}
 use Rattle.doc_attributes.specs.Names.{value_at}
 use Rattle.doc_attributes.specs.Others.{is_other, first_other}
 use Rattle.fes_docs.specs.Names.{is_fes, text_of, value_of, refused, named, no_more, first_in, no_others}
 use Rattle.fes_docs.specs.Sides.{Sides, comparable_at, literal_as, literal_at, beside, right_of, left_of, sides_from, sides_of, match_case, fold_by, fold_of, action_of, only_matches, folded, compare_of}
-use Rattle.fes_docs.specs.Written.{element, reference, side, comparison_name, case_attributes, attribute, compare_tree}
+use Rattle.fes_docs.specs.Written.{reference, side, comparison_name, case_attributes, attribute, compare_tree}
 use Rattle.fes_docs.proofs.Built.{no_more_at_end, has_children, has_value, has_others}
 use Rattle.fes_docs.proofs.Beside.{one_of_two, named_reference, reference_stands, comparable_again, literal_written, beside_again}
 

@@ -1,5 +1,5 @@
 -- BBOX, Intersects and Disjoint read back as they were written.
-use Rattle.std.proofs.Common.{◌≡◌, ◌⊎◌, inl, inr, ℕ, ◌<◌, Bool, true, false, ◌&&◌, ◌||◌, List, [], ◌∷◌, length, Option, Some, None, Result, Ok, Err, cond, refl, sym, ap, subst, ◌∙◌, arith}
+use Rattle.std.proofs.Common.{◌≡◌, ℕ, ◌<◌, Bool, true, false, ◌&&◌, List, [], ◌∷◌, length, Option, Some, None, Result, Ok, Err, refl, sym, ap, subst, ◌∙◌, arith}
 use Rattle.std.specs.Prelude.{ℤ, codes, if◌then◌else◌, int_le}
 use Rattle.std.specs.List.{list_any, list_all}
 use Rattle.std.specs.Str.{bytes_eq}
@@ -17,13 +17,12 @@ use Rattle.geom_core.specs.declared.geometry.Geometry.{Geometry}
 use Rattle.gml_docs.specs.declared.fault.GmlFault.{GmlFault}
 use Rattle.gml_docs.specs.Numbers.{shaped, located, point_of, only_located, position_in, words}
 use Rattle.doc_attributes.specs.Names.{is_name, is_among}
-use Rattle.gml_docs.specs.Elements.{gml_space, is_gml, is_fitting, fitted, entered, no_more as gml_no_more, position_at, lower_corner, upper_corner, box_above, corners_of, envelope_of, geometry_of}
+use Rattle.gml_docs.specs.Elements.{is_gml, is_fitting, fitted, entered, no_more as gml_no_more, position_at, lower_corner, upper_corner, box_above, corners_of, envelope_of, geometry_of}
 use Rattle.gml_docs.specs.Written.{gml_name, plain_name, position_text, element as gml_element, leaf as gml_leaf, parent as gml_parent, tree_of}
 use Rattle.gml_docs.specs.RoundTrip.{IsGeometry}
 use Rattle.gml_docs.proofs.Reading.{has_name, has_children, has_text, has_attributes, reads_back}
 use Rattle.gml_docs.proofs.Texts.{position_again}
 use Rattle.feature_values.specs.Ids.{is_colon}
-use Rattle.feature_values.specs.declared.schema.ValueKind.{ValueKind}
 use Rattle.feature_values.specs.declared.schema.FeatureType.{FeatureType}
 use Rattle.feature_values.specs.declared.schema.Schema.{Schema}
 use Rattle.fes_filter.specs.Check.{type_in, is_shape}
@@ -37,7 +36,7 @@ use Rattle.fes_docs.specs.Spatial.{box_of as bbox_of}
 use Rattle.fes_docs.specs.Written.{attribute, parent, reference, first_name, envelope_tree, box_children, box_tree, shape_tree}
 use Rattle.fes_docs.proofs.Built.{no_more_at_end, parent_children, parent_others}
 use Rattle.fes_docs.proofs.Named.{reference_again, is_reference}
-use Rattle.fes_docs.proofs.Beside.{suited_is, suits, named_reference, reference_stands}
+use Rattle.fes_docs.proofs.Beside.{suited_is, suits, reference_stands}
 
 drawn_is : {A : Type 0} (r : Result A GmlFault) (x : A) → drawn r ≡ Ok x → r ≡ Ok x
 drawn_is (Ok y) x e = ap Ok (ok_is FilterDocFault y x e)

@@ -1,12 +1,8 @@
 -- The identifiers of a filter read back as they were written.
-use Rattle.std.proofs.Common.{◌≡◌, ℕ, suc, ◌+◌, ◌<◌, ◌≤◌, ◌^◌, Bool, true, false, List, [], ◌∷◌, ◌++◌, length, get_or, map, Option, Some, None, Result, Ok, Err, ltb, refl, sym, ap, subst, ◌∙◌, append_assoc, arith}
+use Rattle.std.proofs.Common.{◌≡◌, ℕ, suc, ◌<◌, ◌≤◌, ◌^◌, Bool, true, false, List, [], ◌∷◌, ◌++◌, length, get_or, map, Option, Some, None, Ok, ltb, refl, sym, ap, subst, ◌∙◌, append_assoc, arith}
 use Rattle.std.specs.Prelude.{codes, slice_get, option_map, ◌==◌, if◌then◌else◌}
-use Rattle.std.specs.Option.{option_and_then}
 use Rattle.std.specs.List.{position_or_len, before_first, after_first}
 use Rattle.std.specs.Fmt.{decimal}
-use Rattle.std.specs.Str.{bytes_eq}
-use Rattle.std.specs.Str.Parse.{digits_value}
-use Rattle.std.proofs.lemmas.Fmt.{decimal-digits_value}
 use Rattle.std.proofs.lemmas.List.{append-nil}
 use Rattle.std.proofs.lemmas.List.Sums.{split_at_first, passes_at_first, prefix_len-le-length}
 use Rattle.wfs_ends.specs.Ends.{joined}
@@ -16,22 +12,20 @@ use Rattle.doc_tree.specs.declared.tree.Attribute.{Attribute}
 use Rattle.doc_tree.specs.declared.tree.Element.{Element, out-Element}
 use Rattle.gml_docs.specs.Written.{plain_name}
 use Rattle.feature_values.specs.Ids.{is_dot, type_named, number_of, rid_of}
-use Rattle.feature_values.specs.Reads.{is_numeral, numeral_below}
+use Rattle.feature_values.specs.Reads.{numeral_below}
 use Rattle.feature_values.specs.declared.feature.Rid.{Rid}
-use Rattle.feature_values.specs.declared.schema.FeatureType.{FeatureType}
 use Rattle.feature_values.specs.declared.schema.Schema.{Schema}
 use Rattle.feature_values.proofs.Dots.{no_dot}
 use Rattle.fes_filter.specs.declared.ids.IdRef.{IdRef}
-use Rattle.fes_filter.specs.declared.ids.IdRef.TheVariants.{Known, Nobody, Parameter}
 use Rattle.fes_docs.specs.declared.fault.FilterDocFault.{FilterDocFault}
 use Rattle.doc_attributes.specs.Names.{value_at}
 use Rattle.doc_attributes.specs.Others.{is_other, first_other}
-use Rattle.fes_docs.specs.Names.{is_fes, value_of, refused, no_others, named, no_more}
+use Rattle.fes_docs.specs.Names.{is_fes, value_of, no_others, named, no_more}
 use Rattle.fes_docs.specs.Uses.{name_in, place_of}
 use Rattle.fes_docs.specs.Ids.{known_or_nobody, id_as, id_in, id_at, next_id}
-use Rattle.fes_docs.specs.Written.{element, attribute, type_name, id_text, id_tree}
+use Rattle.fes_docs.specs.Written.{attribute, type_name, id_text, id_tree}
 use Rattle.fes_docs.proofs.Built.{no_more_at_end, has_children, has_value, has_others, is_named}
-use Rattle.fes_docs.proofs.Named.{some_is, and_then_some, map_some, first_named}
+use Rattle.fes_docs.proofs.Named.{and_then_some, map_some, first_named}
 use Rattle.fes_docs.proofs.Places.{no_use, place_again}
 use Rattle.fes_docs.proofs.Values.{numeral_text}
 

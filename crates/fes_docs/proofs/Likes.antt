@@ -1,5 +1,5 @@
 -- Patterns read back as they were written.
-use Rattle.std.proofs.Common.{◌≡◌, ℕ, Bool, true, false, ◌||◌, List, [], ◌∷◌, ◌++◌, map, fold, Option, Some, None, Result, Ok, Err, refl, sym, ap, subst, ◌∙◌, append_assoc, arith}
+use Rattle.std.proofs.Common.{◌≡◌, ℕ, Bool, true, false, ◌||◌, List, [], ◌∷◌, ◌++◌, fold, Option, Some, None, Ok, refl, sym, ap, ◌∙◌, append_assoc, arith}
 use Rattle.std.specs.Prelude.{codes, encode_utf8, encode_utf8_all, ◌==◌, if◌then◌else◌, All}
 use Rattle.std.specs.List.{list_any, flat_map}
 use Rattle.std.specs.Char.{IsScalar}
@@ -25,9 +25,9 @@ use Rattle.fes_docs.specs.declared.like.Marks.{Marks}
 use Rattle.fes_docs.specs.declared.fault.FilterDocFault.{FilterDocFault}
 use Rattle.doc_attributes.specs.Names.{value_at}
 use Rattle.doc_attributes.specs.Others.{is_other, first_other}
-use Rattle.fes_docs.specs.Names.{text_of, value_of, refused, named, no_more, first_in, no_others, plain}
+use Rattle.fes_docs.specs.Names.{text_of, refused, named, no_more, first_in, plain}
 use Rattle.fes_docs.specs.Sides.{property_at, suited}
-use Rattle.fes_docs.specs.Like.{bad_marks, one_of, mark_in, mark_of, marks_of, only_marks, next_part, pattern_of, pattern_behind, like_of}
+use Rattle.fes_docs.specs.Like.{one_of, mark_in, mark_of, marks_of, only_marks, next_part, pattern_of, pattern_behind, like_of}
 use Rattle.fes_docs.specs.Written.{attribute, reference, leaf, part_text, mark_attributes, like_tree}
 use Rattle.fes_docs.specs.RoundTrip.{part_characters}
 use Rattle.fes_docs.proofs.Built.{no_more_at_end, has_children, has_value, has_others, leaf_named, leaf_text, leaf_plain}

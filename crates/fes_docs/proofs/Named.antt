@@ -1,8 +1,8 @@
 -- The name of a property that a reader found, with the schema's prefix, is the name of that property.
-use Rattle.std.proofs.Common.{◌≡◌, ℕ, suc, ◌+◌, ◌^◌, Bool, true, false, ◌||◌, ◌∷◌, [], ◌++◌, List, length, drop, Option, Some, None, Result, Ok, Err, cond, eqb, ne_eqb, refl, sym, ap, ◌∙◌, arith}
-use Rattle.std.specs.Prelude.{codes, slice_get, nat_lt, option_map, if◌then◌else◌, ◌==◌}
+use Rattle.std.proofs.Common.{◌≡◌, ℕ, suc, ◌+◌, ◌^◌, Bool, true, false, ◌||◌, ◌∷◌, [], ◌++◌, List, length, drop, Option, Some, None, Ok, cond, eqb, ne_eqb, refl, ap, ◌∙◌, arith}
+use Rattle.std.specs.Prelude.{codes, slice_get, nat_lt, option_map}
 use Rattle.std.specs.Option.{option_and_then}
-use Rattle.std.specs.List.{list_any, position_from, position_or_len, after_first}
+use Rattle.std.specs.List.{list_any, position_from, position_or_len}
 use Rattle.std.specs.Str.{bytes_eq}
 use Rattle.std.proofs.lemmas.Slice.Eq.{bytes_eq-Decides}
 use Rattle.std.proofs.lemmas.List.{append-nil, length-append}
@@ -19,7 +19,7 @@ use Rattle.fes_filter.specs.Check.{type_in, with_kind, property_in}
 use Rattle.fes_docs.specs.declared.fault.FilterDocFault.{FilterDocFault}
 use Rattle.fes_docs.specs.Names.{is_fes, text_of, plain}
 use Rattle.fes_docs.specs.Sides.{or_unknown, property_at}
-use Rattle.fes_docs.specs.Written.{name_if, property_name, leaf, reference}
+use Rattle.fes_docs.specs.Written.{name_if, property_name, reference}
 use Rattle.fes_docs.proofs.Built.{leaf_named, leaf_text, leaf_plain}
 
 pub some_is : {A : Type 0} (x y : A) → Some x ≡ Some y → x ≡ y

@@ -9,20 +9,17 @@ use Rattle.doc_tree.specs.declared.tree.QName.{QName}
 use Rattle.geom_core.specs.declared.geometry.Geometry.{Geometry}
 use Rattle.gml_docs.specs.RoundTrip.{IsGeometry}
 use Rattle.fes_filter.specs.declared.expr.By.{By}
-use Rattle.fes_filter.specs.declared.expr.By.TheVariants as By
 use Rattle.fes_filter.specs.declared.pattern.LikePart.{LikePart}
 use Rattle.fes_filter.specs.declared.filter.Filter.{Filter}
-use Rattle.fes_filter.specs.declared.filter.Filter.TheVariants.{Both, Either, Not, Compare, Like, Between, Meets, Apart, rolls-Both, rolls-Either, rolls-Not, rolls-Like, rolls-Meets, rolls-Apart}
+use Rattle.fes_filter.specs.declared.filter.Filter.TheVariants.{Both, Either, Not, Like, Meets, Apart, rolls-Both, rolls-Either, rolls-Not, rolls-Like, rolls-Meets, rolls-Apart}
 use Rattle.fes_filter.specs.declared.filter.Filter.TheOpen.{Filter-F}
 use Rattle.fes_filter.specs.declared.filter.Filter.TheFolds.{fold-roll-Filter}
 use Rattle.fes_docs.specs.declared.fault.FilterDocFault.{FilterDocFault}
-use Rattle.fes_docs.specs.declared.operator.Predicate.{Predicate}
 use Rattle.fes_docs.specs.declared.operator.Predicate.TheVariants as Test
 use Rattle.fes_docs.specs.declared.operator.Operator.{Operator}
-use Rattle.fes_docs.specs.declared.operator.Operator.TheVariants as Operator
 use Rattle.fes_docs.specs.Names.{fes_space}
 use Rattle.fes_docs.specs.Operators.{comparison_named, predicate_named, operator_named, operator_in}
-use Rattle.fes_docs.specs.Filters.{Reading, next_operator, one}
+use Rattle.fes_docs.specs.Filters.{Reading, next_operator}
 use Rattle.fes_docs.specs.Written.{comparison_name}
 use Rattle.fes_docs.specs.RoundTrip.{part_characters, characters_step, characters, shapes_step, shapes, IsFilter}
 use Rattle.fes_docs.proofs.Likes.{all_first}

@@ -1,25 +1,23 @@
 -- The text that is written for a literal reads back: as the same parameter, or as the same value and as no parameter.
-use Rattle.std.proofs.Common.{◌≡◌, ℕ, ◌+◌, ◌^◌, ◌<◌, Bool, true, false, List, [], ◌∷◌, ◌++◌, length, get_or, Option, Some, None, Result, Ok, Err, cond, refl, sym, ap, subst, ◌∙◌, arith}
-use Rattle.std.specs.Prelude.{ℤ, codes, slice_get, ◌==◌, if◌then◌else◌}
-use Rattle.std.specs.Option.{option_and_then}
-use Rattle.std.proofs.lemmas.List.{append-nil}
+use Rattle.std.proofs.Common.{◌≡◌, ℕ, ◌<◌, Bool, true, false, List, [], ◌∷◌, ◌++◌, length, get_or, Option, Some, None, Result, Ok, Err, refl, sym, ap, subst, ◌∙◌, arith}
+use Rattle.std.specs.Prelude.{slice_get, ◌==◌}
 use Rattle.wfs_ends.specs.Ends.{joined}
 use Rattle.wfs_ends.proofs.Turns.{ok_is}
 use Rattle.feature_values.specs.Reads.{read_as}
 use Rattle.feature_values.specs.declared.schema.ValueKind.{ValueKind}
 use Rattle.feature_values.specs.declared.schema.ValueKind.TheVariants as Kind
 use Rattle.feature_values.specs.declared.value.Value.{Value}
-use Rattle.feature_values.specs.declared.value.Value.TheVariants.{Words, Whole, Truth}
+use Rattle.feature_values.specs.declared.value.Value.TheVariants.{Words}
 use Rattle.feature_values.specs.declared.fault.ValueFault.{ValueFault}
 use Rattle.fes_filter.specs.declared.expr.Expr.{Expr}
 use Rattle.fes_filter.specs.declared.expr.Expr.TheVariants.{Literal, Parameter}
 use Rattle.fes_docs.specs.declared.fault.FilterDocFault.{FilterDocFault}
-use Rattle.fes_docs.specs.Uses.{behind_first, before_last, not_empty, name_in, place_named, or_undeclared, place_if, place_of}
+use Rattle.fes_docs.specs.Uses.{not_empty, name_in, place_named, or_undeclared, place_if, place_of}
 use Rattle.fes_docs.specs.Sides.{or_types, literal_as}
-use Rattle.fes_docs.specs.Written.{truth_text, value_text, use_of, use_if, place_text}
+use Rattle.fes_docs.specs.Written.{truth_text, value_text, use_of, place_text}
 use Rattle.fes_docs.proofs.Edges.{last_found}
 use Rattle.fes_docs.proofs.Named.{some_is, and_then_some, first_named}
-use Rattle.fes_docs.proofs.Values.{IsWhole, value_again, whole_read, truth_read, starts_otherwise}
+use Rattle.fes_docs.proofs.Values.{value_again, whole_read, truth_read, starts_otherwise}
 
 -- ---- parameters
 

@@ -1,7 +1,6 @@
 -- How an element is read where an operator is expected, by how its children are.
 use Rattle.std.proofs.Common.{◌≡◌, ℕ, List, [], ◌∷◌, map, Option, refl, sym, ap, subst, ◌∙◌}
 use Rattle.doc_tree.specs.declared.tree.Element.{Element, out-Element}
-use Rattle.doc_tree.specs.declared.tree.Element.TheOpen.{Element-F}
 use Rattle.doc_tree.specs.declared.tree.Element.TheViews.{roll-Element}
 use Rattle.doc_tree.specs.declared.tree.Element.TheFolds.{fold-Element, fold-roll-Element, fold_out-Element, ind-Element}
 use Rattle.feature_values.specs.declared.schema.Schema.{Schema}

@@ -1,7 +1,7 @@
 -- The text that is written for a value reads back as that value.
-use Rattle.std.proofs.Common.{◌≡◌, ℕ, zero, suc, ◌+◌, ◌-◌, ◌^◌, ◌<◌, ◌≤◌, Bool, true, false, ◌&&◌, List, [], ◌∷◌, length, get_or, take, drop, Option, Some, None, Result, Ok, Err, refl, sym, ap, subst, ◌∙◌, arith, eq-eqb}
-use Rattle.std.specs.Prelude.{ℤ, pos, negsuc, neg_ℤ, option_map, if◌then◌else◌, nat_lt, ◌==◌, All, codes}
-use Rattle.std.specs.List.{prefix_len, suffix_len}
+use Rattle.std.proofs.Common.{◌≡◌, ℕ, zero, suc, ◌+◌, ◌-◌, ◌^◌, ◌<◌, Bool, true, false, ◌&&◌, List, [], ◌∷◌, length, get_or, take, drop, Option, Some, None, Ok, refl, sym, ap, subst, ◌∙◌, arith, eq-eqb}
+use Rattle.std.specs.Prelude.{ℤ, pos, negsuc, neg_ℤ, option_map, if◌then◌else◌, nat_lt, ◌==◌, All}
+use Rattle.std.specs.List.{suffix_len}
 use Rattle.std.specs.Char.{is_ascii_digit}
 use Rattle.std.specs.Fmt.{decimal, signed_decimal}
 use Rattle.std.specs.Str.{all_ascii_digits}
@@ -11,7 +11,7 @@ use Rattle.std.proofs.lemmas.List.{take_all}
 use Rattle.std.proofs.lemmas.List.Elements.{All-cons, All-head}
 use Rattle.std.proofs.lemmas.Str.Parse.{IsNumeralModel, numerals_by_value, tells_all_ascii_digits}
 use Rattle.wfs_ends.proofs.Turns.{ok_is}
-use Rattle.feature_values.specs.Reads.{is_space, trimmed, without_leading, without_trailing, is_numeral, numeral_below, whole_of, truth_of, a_whole, a_truth, read_as}
+use Rattle.feature_values.specs.Reads.{is_space, trimmed, without_leading, is_numeral, numeral_below, whole_of, truth_of, a_whole, a_truth, read_as}
 use Rattle.feature_values.specs.declared.schema.ValueKind.{ValueKind}
 use Rattle.feature_values.specs.declared.schema.ValueKind.TheVariants as Kind
 use Rattle.feature_values.specs.declared.value.Value.{Value}

@@ -21,7 +21,6 @@ use Rattle.fes_docs.specs.declared.fault.FilterDocFault.TheVariants.{Shape}
 use Rattle.fes_docs.specs.declared.operator.Predicate.{Predicate}
 use Rattle.fes_docs.specs.declared.operator.Predicate.TheVariants as Test
 use Rattle.fes_docs.specs.declared.operator.Operator.{Operator}
-use Rattle.fes_docs.specs.declared.operator.Operator.TheVariants as Operator
 use Rattle.fes_docs.specs.Names.{fes_space, is_fes, local_of, named, no_others, no_more, first_in}
 use Rattle.fes_docs.specs.Operators.{operator_in}
 use Rattle.fes_docs.specs.Filters.{Reading, counted, only_id, predicate_of, next_operator, several, one, operation, operator_by, operator_of, ids_in, content_from, content_of, filter_of}

@@ -1,6 +1,6 @@
 -- The filter of an element, or what is wrong with it first (FES 2.0, OGC 09-026r2, section 7): the elements are judged in
 -- document order, each as specs/Names.antt says, and an operator before its parts.
-use Rattle.std.specs.Prelude.{ℕ, Bool, if◌then◌else◌, ◌==◌, ◌-◌, nat_lt, List, [], ◌∷◌, ◌++◌, length, map, codes, Option, Some, None, Result, Ok, Err}
+use Rattle.std.specs.Prelude.{ℕ, if◌then◌else◌, ◌==◌, ◌-◌, nat_lt, List, [], ◌∷◌, ◌++◌, length, map, codes, Option, Result, Ok, Err}
 use Rattle.wfs_ends.specs.Read.{◌>>=◌, each}
 use Rattle.doc_tree.specs.declared.tree.Element.{Element, out-Element}
 use Rattle.doc_tree.specs.declared.tree.Element.TheOpen.{Element-F}
@@ -8,7 +8,6 @@ use Rattle.doc_tree.specs.declared.tree.Element.TheViews.{roll-Element}
 use Rattle.doc_tree.specs.declared.tree.Element.TheFolds.{fold-Element}
 use Rattle.feature_values.specs.declared.schema.Schema.{Schema}
 use Rattle.fes_filter.specs.Check.{type_in, most_operators}
-use Rattle.fes_filter.specs.declared.ids.IdRef.{IdRef}
 use Rattle.fes_filter.specs.declared.filter.Filter.{Filter}
 use Rattle.fes_filter.specs.declared.filter.Filter.TheVariants.{Both, Either, Not, Ids, Meets, Apart}
 use Rattle.fes_filter.specs.declared.fault.FilterFault.TheVariants.{TooLarge}
@@ -21,7 +20,6 @@ use Rattle.fes_docs.specs.Operators.{operator_in}
 use Rattle.fes_docs.specs.declared.operator.Predicate.{Predicate}
 use Rattle.fes_docs.specs.declared.operator.Predicate.TheVariants as Test
 use Rattle.fes_docs.specs.declared.operator.Operator.{Operator}
-use Rattle.fes_docs.specs.declared.operator.Operator.TheVariants as Operator
 use Rattle.fes_docs.specs.declared.fault.FilterDocFault.{FilterDocFault}
 use Rattle.fes_docs.specs.declared.fault.FilterDocFault.TheVariants.{Shape, Checked}
 

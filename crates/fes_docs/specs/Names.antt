@@ -2,15 +2,13 @@
 -- allowed where it stands; its listed attributes, in the order of the list; other attributes in no namespace, of which
 -- the first by name is told; its children in document order; and then the children that are missing. Attributes of
 -- namespaces are not looked at, nor is text beside child elements.
-use Rattle.std.specs.Prelude.{ℕ, Bool, true, false, ◌&&◌, not, if◌then◌else◌, List, [], ◌∷◌, codes, Option, Some, None, Result, Ok, Err}
-use Rattle.std.specs.Str.{bytes_eq}
+use Rattle.std.specs.Prelude.{ℕ, Bool, if◌then◌else◌, List, [], ◌∷◌, codes, Option, Some, None, Result, Ok, Err}
 use Rattle.wfs_ends.specs.Read.{◌>>=◌}
 use Rattle.doc_tree.specs.declared.tree.Element.{Element, out-Element}
 use Rattle.doc_attributes.specs.Names.{is_name, value_at}
 use Rattle.doc_attributes.specs.Others.{first_other}
 use Rattle.gml_docs.specs.declared.fault.GmlFault.{GmlFault}
 use Rattle.gml_docs.specs.declared.fault.GmlFault.TheVariants.{Srs, OutOfMemory as NoMemory}
-use Rattle.fes_filter.specs.declared.fault.FilterFault.{FilterFault}
 use Rattle.fes_filter.specs.declared.fault.FilterFault.TheVariants.{Unknown, Types, Choice, TooLarge}
 use Rattle.fes_docs.specs.declared.fault.FilterDocFault.{FilterDocFault}
 use Rattle.fes_docs.specs.declared.fault.FilterDocFault.TheVariants.{Operator, Shape, Geometry, Checked, Undeclared, OutOfMemory}

@@ -2,14 +2,11 @@
 use Rattle.std.specs.Prelude.{ℕ, if◌then◌else◌, List, codes, Option, Some, None, Result, Ok, Err}
 use Rattle.std.specs.Str.{bytes_eq}
 use Rattle.doc_tree.specs.declared.tree.QName.{QName}
-use Rattle.doc_tree.specs.declared.tree.Element.{Element, out-Element}
 use Rattle.fes_filter.specs.declared.expr.By.{By}
-use Rattle.fes_filter.specs.declared.expr.By.TheVariants as By
-use Rattle.fes_docs.specs.Names.{fes_space, local_of}
+use Rattle.fes_docs.specs.Names.{fes_space}
 use Rattle.fes_docs.specs.declared.operator.Predicate.{Predicate}
 use Rattle.fes_docs.specs.declared.operator.Predicate.TheVariants as Test
 use Rattle.fes_docs.specs.declared.operator.Operator.{Operator}
-use Rattle.fes_docs.specs.declared.operator.Operator.TheVariants as Operator
 use Rattle.fes_docs.specs.declared.fault.FilterDocFault.{FilterDocFault}
 use Rattle.fes_docs.specs.declared.fault.FilterDocFault.TheVariants as Fault
 

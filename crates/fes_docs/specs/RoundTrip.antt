@@ -1,5 +1,5 @@
 -- The element that is written for a filter reads back as that filter.
-use Rattle.std.specs.Prelude.{◌≡◌, ℕ, ◌<◌, false, List, [], ◌∷◌, length, All, Option, Some, None, Ok}
+use Rattle.std.specs.Prelude.{◌≡◌, ℕ, ◌<◌, false, List, [], ◌∷◌, length, All, Option, Ok}
 use Rattle.std.specs.List.{list_any, flat_map}
 use Rattle.std.specs.Char.{IsScalar}
 use Rattle.doc_tree.specs.declared.tree.Element.{Element}

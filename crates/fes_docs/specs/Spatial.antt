@@ -1,5 +1,5 @@
 -- BBOX, Intersects and Disjoint (FES 2.0, OGC 09-026r2, section 7.8).
-use Rattle.std.specs.Prelude.{ℕ, if◌then◌else◌, List, [], ◌∷◌, codes, Option, Some, None, Result, Ok, Err}
+use Rattle.std.specs.Prelude.{ℕ, if◌then◌else◌, List, [], codes, Option, Some, None, Result, Ok, Err}
 use Rattle.wfs_ends.specs.Read.{◌>>=◌}
 use Rattle.doc_tree.specs.declared.tree.Element.{Element, out-Element}
 use Rattle.geom_core.specs.Plane.{Bounds}

@@ -5,7 +5,6 @@ use Rattle.std.specs.List.{flat_map}
 use Rattle.std.specs.Fmt.{signed_decimal}
 use Rattle.wfs_ends.specs.Ends.{joined}
 use Rattle.doc_tree.specs.Tree.{prefixed}
-use Rattle.doc_tree.specs.declared.tree.QName.{QName}
 use Rattle.doc_tree.specs.declared.tree.Attribute.{Attribute}
 use Rattle.doc_tree.specs.declared.tree.Element.{Element}
 use Rattle.doc_tree.specs.declared.tree.Element.TheViews.{roll-Element}
