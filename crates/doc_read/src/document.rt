@@ -127,10 +127,16 @@ fn is_plain(byte: u8) -> bool
     (byte >= b' ' && byte != 0xef) || byte == b'\t' || byte == b'\n' || byte == b'\r'
 }
 
+/// Whether all bytes are plain. No byte ends the loop, so that many are compared at once.
+#[tactic(auto, using(std::proofs::lemmas::List::Folds::list_all_more))]
 fn all_plain(bytes: &[u8]) -> bool
     ensures { result ≡ list_all is_plain bytes.now }
 {
-    bytes.iter().all(|b| is_plain(*b))
+    let mut are_plain = true;
+    for byte in bytes {
+        are_plain &= is_plain(*byte);
+    }
+    are_plain
 }
 
 fn each_allowed(cs: &str) -> bool

@@ -115,7 +115,7 @@ pub fn attributes_in(
 ) -> Mem<Vec<Attribute>>
     ensures { IfOk result (λ v. v.items ≡ attributes_in (bounds_of scope.now) (map raw_of raws.now)) }
 {
-    let mut found = Vec::new(alloc);
+    let mut found = Vec::with_capacity(alloc, raws.len())?;
     for raw in raws {
         add_attribute(alloc, scope, &mut found, raw)?;
     }
