@@ -1,8 +1,8 @@
 -- Rows behind which more stands, and what a transaction leaves.
 use Rattle.std.proofs.Common.{◌≡◌, ◌≢◌, ℕ, zero, suc, ◌+◌, ◌<◌, ◌≤◌, ◌⊎◌, inl, inr, List, [], ◌∷◌, ◌++◌, length, get_or, take, map, set, refl, sym, ap, ◌∙◌, arith, append_assoc, length-set}
 use Rattle.std.specs.Prelude.{All, Option}
-use Rattle.std.specs.List.{AllPairs, fold}
-use Rattle.std.proofs.lemmas.List.{append-nil, get_or-set_same, get_or-set_other, get_or_past, take_at, set-get_or, ext_get_or, get_or_default}
+use Rattle.std.specs.List.{fold}
+use Rattle.std.proofs.lemmas.List.{append-nil, get_or-set_same, get_or-set_other, take_at, ext_get_or}
 use Rattle.std.proofs.lemmas.List.Quantifiers.{all_pairs_push}
 use Rattle.feature_values.specs.declared.feature.Feature.{Feature}
 use Rattle.feature_values.specs.declared.schema.Schema.{Schema}

@@ -1,5 +1,5 @@
 -- One query more, and one identifier more.
-use Rattle.std.proofs.Common.{◌≡◌, ℕ, ◌+◌, ◌<◌, List, [], ◌∷◌, ◌++◌, length, get_or, take, map, refl, sym, ap, ◌∙◌}
+use Rattle.std.proofs.Common.{◌≡◌, ℕ, ◌+◌, ◌<◌, List, [], ◌++◌, length, get_or, take, map, sym, ap, ◌∙◌}
 use Rattle.std.specs.Prelude.{flat_map}
 use Rattle.std.specs.List.{fold}
 use Rattle.std.proofs.lemmas.List.{take_more, flat_map_more, map_push}
@@ -7,7 +7,6 @@ use Rattle.std.proofs.lemmas.List.Sums.{fold_push}
 use Rattle.feature_values.specs.declared.feature.Feature.{Feature}
 use Rattle.feature_values.specs.declared.feature.Rid.{Rid}
 use Rattle.fes_filter.specs.View.{feature_at}
-use Rattle.fes_filter.specs.declared.query.Query.{Query}
 use Rattle.query_core.specs.Selecting.{all_selected, selected_ids, joined, held, to_list}
 use Rattle.wfs_machine.specs.declared.request.Asked.{Asked}
 use Rattle.wfs_machine.specs.Read.{query_of}

@@ -1,5 +1,5 @@
 -- A serial history of the service.
-use Rattle.std.specs.Prelude.{◌≡◌, ℕ, ◌≤◌, List, [], ◌∷◌, take, ⊤}
+use Rattle.std.specs.Prelude.{ℕ, ◌≤◌, List, [], ◌∷◌, take, ⊤}
 use Rattle.std.specs.List.{fold}
 use Rattle.wfs_machine.specs.declared.request.Entry.{Entry}
 use Rattle.wfs_machine.specs.declared.request.Request.{Request}

@@ -1,5 +1,5 @@
 -- What a read answers (OGC 09-025r2, section 11), and the links of its pages (section 7.7.4.4). Where links stand is this project's own.
-use Rattle.std.specs.Prelude.{ℕ, ◌+◌, ◌-◌, Bool, ◌&&◌, nat_lt, if◌then◌else◌, List, [], ◌++◌, length, map, min, codes, decimal, Option, Some, None}
+use Rattle.std.specs.Prelude.{ℕ, ◌+◌, ◌-◌, ◌&&◌, nat_lt, if◌then◌else◌, List, [], ◌++◌, length, map, min, codes, decimal, Option, Some, None}
 use Rattle.feature_values.specs.declared.feature.Feature.{Feature}
 use Rattle.feature_values.specs.declared.feature.Rid.{Rid}
 use Rattle.fes_filter.specs.declared.query.Query.{Query}

@@ -1,4 +1,4 @@
-use Rattle.std.proofs.Common.{◌≡◌, ℕ, ◌<◌, ◌≤◌, [], List, get_or, take, length}
+use Rattle.std.proofs.Common.{◌≡◌, ℕ, ◌<◌, ◌≤◌, [], get_or, take}
 use Rattle.wfs_machine.proofs.acting.cut_back.Given as goal
 
 abbrev pub invariant-loop-i : goal.invariant-loop-i

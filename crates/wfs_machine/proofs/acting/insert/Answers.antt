@@ -1,4 +1,3 @@
-use Rattle.std.proofs.Common.{◌≡◌}
 use Rattle.wfs_machine.proofs.Extending.{extends_push}
 use Rattle.wfs_machine.proofs.acting.insert.Goals as goal
 

@@ -1,4 +1,4 @@
-use Rattle.std.proofs.Common.{◌≡◌, sym, ◌∙◌, ap, length, arith}
+use Rattle.std.proofs.Common.{sym, ◌∙◌, ap}
 use Rattle.wfs_machine.specs.Step.{inserted}
 use Rattle.wfs_machine.specs.Kept.{acting}
 use Rattle.wfs_machine.proofs.Folding.{fold_more}

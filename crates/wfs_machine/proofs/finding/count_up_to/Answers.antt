@@ -1,6 +1,5 @@
-use Rattle.std.proofs.Common.{◌≡◌, ◌<◌, ◌≤◌, true, false, rules, of_calls, arith}
+use Rattle.std.proofs.Common.{rules, of_calls, arith}
 use Rattle.std.specs.Prelude.{nat_le}
-use Rattle.std.specs.List.Sorted.{IsPartitionPoint}
 use Rattle.std.proofs.lemmas.Bool.Decides.{nat_tests}
 use Rattle.std.proofs.lemmas.List.Sorted.{IsPartitionPoint-from_clause}
 use Rattle.wfs_machine.proofs.Rows.{is_parted}

@@ -1,4 +1,4 @@
-use Rattle.std.proofs.Common.{◌≡◌, ◌≤◌, arith}
+use Rattle.std.proofs.Common.{arith}
 use Rattle.wfs_machine.proofs.Rows.{none_has_it, last_has_it, last_has_it_not}
 use Rattle.wfs_machine.proofs.finding.feature_in.Goals as goal
 

@@ -1,4 +1,4 @@
-use Rattle.std.proofs.Common.{◌≡◌, sym, ◌∙◌}
+use Rattle.std.proofs.Common.{sym, ◌∙◌}
 use Rattle.query_core.specs.Selecting.{all_selected}
 use Rattle.wfs_machine.specs.State.{all_features}
 use Rattle.wfs_machine.proofs.Folding.{one_query_more}

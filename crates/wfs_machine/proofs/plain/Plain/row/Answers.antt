@@ -1,7 +1,7 @@
-use Rattle.std.proofs.Common.{◌≡◌, ◌<◌, [], length, get_or, sym, ◌∙◌, arith}
+use Rattle.std.proofs.Common.{◌≡◌, [], length, get_or, ◌∙◌, arith}
 use Rattle.std.specs.Vec.{vec_len}
 use Rattle.std.proofs.lemmas.Grind.{common_steps}
-use Rattle.std.proofs.lemmas.List.{get_or_read_under, get_or_past}
+use Rattle.std.proofs.lemmas.List.{get_or_read_under}
 use Rattle.wfs_machine.proofs.plain.Plain.row.Goals as goal
 
 pub returns-clause-kept : goal.returns-clause-kept

@@ -1,9 +1,8 @@
-use Rattle.std.proofs.Common.{◌≡◌, List, [], length, drop, ap, sym, ◌∙◌}
+use Rattle.std.proofs.Common.{◌≡◌, [], length, drop, ap, ◌∙◌}
 use Rattle.std.specs.Prelude.{All}
-use Rattle.std.specs.List.{fold}
 use Rattle.std.proofs.lemmas.List.{take_at}
 use Rattle.wfs_machine.specs.Kept.{AreRows, IsActionWithin, acting}
-use Rattle.wfs_machine.specs.Step.{acted, Acting}
+use Rattle.wfs_machine.specs.Step.{Acting}
 use Rattle.wfs_machine.proofs.Extending.{all_acted_keep, all_of_types}
 use Rattle.wfs_machine.proofs.plain.Plain.step.Goals as goal
 
