@@ -1,5 +1,6 @@
 """What the benchmarks share: messages, and the least time of a command over some runs."""
 
+import contextlib
 import os
 import shutil
 import subprocess
@@ -25,19 +26,33 @@ def built() -> None:
     subprocess.run([PROGRAM, "talk", DEMO], stdin=subprocess.DEVNULL, check=True)
 
 
+def time_once(command: list, source, status: int) -> float:
+    """The time, in seconds, of one run of a command that reads this file and ends with this status."""
+    source.seek(0)
+    start = time.perf_counter()
+    ended = subprocess.run(command, stdin=source, stdout=subprocess.DEVNULL, check=False).returncode
+    taken = time.perf_counter() - start
+    if ended != status:
+        sys.exit("%s ended with status %d and not %d" % (command[0], ended, status))
+    return taken
+
+
+def least_times(command: list, inputs: list, status: int, runs: int = RUNS) -> list:
+    """The least time, in seconds, of some runs for each of these inputs, which take turns, so that a machine that grows slower
+    does not weigh on one of them alone."""
+    with contextlib.ExitStack() as files:
+        sources = [files.enter_context(tempfile.TemporaryFile()) for _ in inputs]
+        for source, data in zip(sources, inputs):
+            source.write(data)
+        best = [float("inf")] * len(inputs)
+        for _ in range(runs):
+            best = [min(least, time_once(command, source, status)) for least, source in zip(best, sources)]
+    return best
+
+
 def least_time(command: list, data: bytes, status: int, runs: int = RUNS) -> float:
     """The least time, in seconds, of some runs of a command that reads these bytes and ends with this status."""
-    with tempfile.TemporaryFile() as source:
-        source.write(data)
-        best = float("inf")
-        for _ in range(runs):
-            source.seek(0)
-            start = time.perf_counter()
-            ended = subprocess.run(command, stdin=source, stdout=subprocess.DEVNULL, check=False).returncode
-            best = min(best, time.perf_counter() - start)
-            if ended != status:
-                sys.exit("%s ended with status %d and not %d" % (command[0], ended, status))
-    return best
+    return least_times(command, [data], status, runs)[0]
 
 
 def session() -> list:
