@@ -1,41 +1,55 @@
 use super::*;
-use doc_tree::{Element, QName};
+use doc_tree::{Attribute, Element, QName};
 use std::alloc::Global;
-use std::test::*;
+use wfs_ends::Mem;
+
+/// A text between two marks, where it is not empty.
+fn put_between(found: &mut String, before: &str, text: &str, after: &str) -> Mem<()> {
+    if !text.is_empty() {
+        found.push_str(before)?;
+        found.push_str(text)?;
+        found.push_str(after)?;
+    }
+    Ok(())
+}
 
 /// Names as `{space}local`, attributes as `[name=value]`, children as `(..)`, text as `"text"`.
-fn put_name(found: &mut String, name: &QName) -> Result<(), Fail> {
-    if !name.space.as_str().is_empty() {
-        found.push_str("{")?;
-        found.push_str(name.space.as_str())?;
-        found.push_str("}")?;
-    }
+fn put_name(found: &mut String, name: &QName) -> Mem<()> {
+    put_between(found, "{", name.space.as_str(), "}")?;
     found.push_str(name.local.as_str())?;
     Ok(())
 }
 
-fn put_tree(found: &mut String, element: &Element) -> Result<(), Fail> {
+fn put_attribute(found: &mut String, attribute: &Attribute) -> Mem<()> {
+    found.push_str("[")?;
+    put_name(found, &attribute.name)?;
+    found.push_str("=")?;
+    found.push_str(attribute.value.as_str())?;
+    found.push_str("]")?;
+    Ok(())
+}
+
+fn put_head(found: &mut String, element: &Element) -> Mem<()> {
     put_name(found, &element.name)?;
     for attribute in element.attributes.items() {
-        found.push_str("[")?;
-        put_name(found, &attribute.name)?;
-        found.push_str("=")?;
-        found.push_str(attribute.value.as_str())?;
-        found.push_str("]")?;
-    }
-    if !element.children.items().is_empty() {
-        found.push_str("(")?;
-        for child in element.children.items() {
-            put_tree(found, child)?;
-        }
-        found.push_str(")")?;
-    }
-    if !element.text.as_str().is_empty() {
-        found.push_str("\"")?;
-        found.push_str(element.text.as_str())?;
-        found.push_str("\"")?;
+        put_attribute(found, attribute)?;
     }
     Ok(())
+}
+
+fn put_tree(found: &mut String, element: &Element) -> Mem<()> {
+    put_head(found, element)?;
+    let is_parent = !element.children.items().is_empty();
+    if is_parent {
+        found.push_str("(")?;
+    }
+    for child in element.children.items() {
+        put_tree(found, child)?;
+    }
+    if is_parent {
+        found.push_str(")")?;
+    }
+    put_between(found, "\"", element.text.as_str(), "\"")
 }
 
 fn name_of(fault: DocFault) -> &'static str {
@@ -50,17 +64,29 @@ fn name_of(fault: DocFault) -> &'static str {
     }
 }
 
-fn reading(alloc: Global, bytes: &[u8]) -> Result<String, Fail> {
+fn shown(alloc: Global, root: &Element) -> Mem<String> {
     let mut found = String::new(alloc);
-    match read_document(alloc, bytes) {
-        Ok(root) => put_tree(&mut found, &root)?,
-        Err(fault) => found.push_str(name_of(fault))?,
-    }
+    put_tree(&mut found, root)?;
     Ok(found)
 }
 
+fn is_shown(alloc: Global, root: &Element, wanted: &str) -> bool {
+    match shown(alloc, root) {
+        Ok(found) => found.as_str() == wanted,
+        Err(_) => false,
+    }
+}
+
+/// Whether a document is read as this tree, or refused by the fault of this name.
+fn is_read_as(alloc: Global, bytes: &[u8], wanted: &str) -> bool {
+    match read_document(alloc, bytes) {
+        Ok(root) => is_shown(alloc, &root, wanted),
+        Err(fault) => name_of(fault) == wanted,
+    }
+}
+
 /// Documents, and the tree or the fault that the rules give.
-const DOCUMENTS: &[(&str, &str)] = &[
+static DOCUMENTS: [(&str, &str); 136] = [
     // The byte order mark and the declaration.
     ("\u{feff}<a/>", "a"),
     ("\u{feff}<?xml version='1.0'?><a/>", "a"),
@@ -236,27 +262,28 @@ const DOCUMENTS: &[(&str, &str)] = &[
     ),
 ];
 
-#[test]
-fn reads_documents(rt: HostRuntime) -> Result<(), Fail> {
-    for (text, wanted) in DOCUMENTS {
-        let found = reading(rt.alloc(), text.as_bytes())?;
-        assert_eq!(rt; found.as_str(), *wanted, "at {text}");
+/// The first document that is read as something else than the table says.
+fn first_misread<'a>(alloc: Global, rows: &[(&'a str, &'a str)]) -> Option<&'a str> {
+    for (text, wanted) in rows {
+        if !is_read_as(alloc, text.as_bytes(), wanted) {
+            return Some(text);
+        }
     }
-    assert_eq!(rt; reading(rt.alloc(), b"<a>\xff</a>")?.as_str(), "NotText");
-    assert_eq!(rt;
-        reading(rt.alloc(), b"<a>\xed\xa0\x80</a>")?.as_str(),
-        "NotText"
-    );
-    Ok(())
+    None
 }
 
-fn repeated(
-    alloc: Global,
-    before: &str,
-    piece: &str,
-    count: u32,
-    after: &str,
-) -> Result<String, Fail> {
+#[test]
+fn reads_documents(rt: HostRuntime) {
+    assert_eq!(rt; first_misread(rt.alloc(), &DOCUMENTS), None);
+}
+
+#[test]
+fn bytes_that_are_no_text_are_refused(rt: HostRuntime) {
+    assert!(rt; is_read_as(rt.alloc(), b"<a>\xff</a>", "NotText"));
+    assert!(rt; is_read_as(rt.alloc(), b"<a>\xed\xa0\x80</a>", "NotText"));
+}
+
+fn repeated(alloc: Global, before: &str, piece: &str, count: u32, after: &str) -> Mem<String> {
     let mut text = String::new(alloc);
     text.push_str(before)?;
     for _ in 0..count {
@@ -266,45 +293,75 @@ fn repeated(
     Ok(text)
 }
 
-fn nested(alloc: Global, levels: u32, inside: &str) -> Result<String, Fail> {
+fn nested(alloc: Global, levels: u32, inside: &str) -> Mem<String> {
     let starts = repeated(alloc, "", "<a>", levels, inside)?;
     repeated(alloc, starts.as_str(), "</a>", levels, "")
 }
 
-fn fault_of(alloc: Global, text: &String) -> Option<DocFault> {
-    read_document(alloc, text.as_bytes()).err()
+/// The name of the fault of a text, or that it is read.
+fn told(alloc: Global, text: Mem<String>) -> &'static str {
+    let Ok(text) = text else {
+        return "OutOfMemory";
+    };
+    match read_document(alloc, text.as_bytes()) {
+        Ok(_) => "read",
+        Err(fault) => name_of(fault),
+    }
+}
+
+/// How many levels an element stands in, the element, and what is told of it.
+static LEVELS: [(u32, &str, &str); 6] = [
+    (32, "x", "read"),
+    (31, "<b/>", "read"),
+    (33, "x", "TooDeep"),
+    (32, "<b/>", "TooDeep"),
+    (32, "<p:b/>", "Prefix"),
+    (32, "<b c='1' c='1'/>", "Malformed"),
+];
+
+/// How many children stand in an element, what comes behind them, and what is told of it.
+static CHILDREN: [(u32, &str, &str); 2] = [
+    (99_999, "</a>", "read"),
+    (100_000, "<p:c/></a>", "TooMany"),
+];
+
+/// How many attributes and as many declarations a tag has, what comes behind them, and what is told of it.
+static ATTRIBUTES: [(u32, &str, &str); 4] = [
+    (64, "/>", "read"),
+    (65, "/>", "TooMany"),
+    (65, " b0=''/>", "Malformed"),
+    (65, " q:b=''/>", "Prefix"),
+];
+
+/// Whether this is told of a text.
+fn is_told(alloc: Global, text: Mem<String>, wanted: &str) -> bool {
+    told(alloc, text) == wanted
 }
 
 #[test]
-fn counts_levels_and_elements(rt: HostRuntime) -> Result<(), Fail> {
+fn counts_levels(rt: HostRuntime) {
     let alloc = rt.alloc();
-    assert_eq!(rt; fault_of(alloc, &nested(alloc, 32, "x")?), None);
-    assert_eq!(rt; fault_of(alloc, &nested(alloc, 31, "<b/>")?), None);
-    assert_eq!(rt;
-        fault_of(alloc, &nested(alloc, 33, "x")?),
-        Some(DocFault::TooDeep)
-    );
-    assert_eq!(rt;
-        fault_of(alloc, &nested(alloc, 32, "<b/>")?),
-        Some(DocFault::TooDeep)
-    );
-    assert_eq!(rt;
-        fault_of(alloc, &nested(alloc, 32, "<p:b/>")?),
-        Some(DocFault::Prefix)
-    );
-    assert_eq!(rt;
-        fault_of(alloc, &nested(alloc, 32, "<b c='1' c='1'/>")?),
-        Some(DocFault::Malformed)
-    );
-    let most = repeated(alloc, "<a>", "<b/>", 99_999, "</a>")?;
-    assert_eq!(rt; fault_of(alloc, &most), None);
-    let too_many = repeated(alloc, "<a>", "<b/>", 100_000, "<p:c/></a>")?;
-    assert_eq!(rt; fault_of(alloc, &too_many), Some(DocFault::TooMany));
-    Ok(())
+    for (levels, inside, wanted) in LEVELS.iter() {
+        assert!(rt;
+            is_told(alloc, nested(alloc, *levels, inside), wanted),
+            "{inside}"
+        );
+    }
+}
+
+#[test]
+fn counts_elements(rt: HostRuntime) {
+    let alloc = rt.alloc();
+    for (count, after, wanted) in CHILDREN.iter() {
+        assert!(rt;
+            is_told(alloc, repeated(alloc, "<a>", "<b/>", *count, after), wanted),
+            "{after}"
+        );
+    }
 }
 
 /// A tag with so many attributes, and as many declarations.
-fn tag(alloc: Global, count: u32, after: &str) -> Result<String, Fail> {
+fn tag(alloc: Global, count: u32, after: &str) -> Mem<String> {
     let mut text = String::from_str(alloc, "<a")?;
     for i in 0..count {
         write!(text, " b{i}='' xmlns:p{i}='u'")?;
@@ -314,20 +371,12 @@ fn tag(alloc: Global, count: u32, after: &str) -> Result<String, Fail> {
 }
 
 #[test]
-fn counts_attributes(rt: HostRuntime) -> Result<(), Fail> {
+fn counts_attributes(rt: HostRuntime) {
     let alloc = rt.alloc();
-    assert_eq!(rt; fault_of(alloc, &tag(alloc, 64, "/>")?), None);
-    assert_eq!(rt;
-        fault_of(alloc, &tag(alloc, 65, "/>")?),
-        Some(DocFault::TooMany)
-    );
-    assert_eq!(rt;
-        fault_of(alloc, &tag(alloc, 65, " b0=''/>")?),
-        Some(DocFault::Malformed)
-    );
-    assert_eq!(rt;
-        fault_of(alloc, &tag(alloc, 65, " q:b=''/>")?),
-        Some(DocFault::Prefix)
-    );
-    Ok(())
+    for (count, after, wanted) in ATTRIBUTES.iter() {
+        assert!(rt;
+            is_told(alloc, tag(alloc, *count, after), wanted),
+            "{after}"
+        );
+    }
 }
