@@ -21,14 +21,18 @@ fn property(alloc: Global, name: &str, kind: ValueKind) -> Mem<Property> {
     })
 }
 
-fn type_named(alloc: Global, name: &str, properties: &[(&str, ValueKind)]) -> Mem<FeatureType> {
-    let mut all = Vec::new(alloc);
-    for one in properties {
-        all.push(property(alloc, one.0, one.1)?)?;
+fn properties(alloc: Global, all: &[(&str, ValueKind)]) -> Mem<List<Property>> {
+    let mut properties = Vec::new(alloc);
+    for one in all {
+        properties.push(property(alloc, one.0, one.1)?)?;
     }
+    Ok(List::of(properties))
+}
+
+fn type_named(alloc: Global, name: &str, all: &[(&str, ValueKind)]) -> Mem<FeatureType> {
     Ok(FeatureType {
         name: Text::of(alloc, name)?,
-        properties: List::of(all),
+        properties: properties(alloc, all)?,
     })
 }
 
@@ -42,22 +46,30 @@ static FIELD: [(&str, ValueKind); 2] = [("name", ValueKind::Words), ("area", Val
 
 static WAY: [(&str, ValueKind); 1] = [("course", ValueKind::Line)];
 
-// Marks, fields and ways, in two names of one reference system.
-fn schema(alloc: Global) -> Mem<Schema> {
+fn types(alloc: Global) -> Mem<List<FeatureType>> {
     let mut types = Vec::new(alloc);
     types.push(type_named(alloc, "Mark", &MARK)?)?;
     types.push(type_named(alloc, "Field", &FIELD)?)?;
     types.push(type_named(alloc, "Way", &WAY)?)?;
+    Ok(List::of(types))
+}
+
+fn srs(alloc: Global) -> Mem<List<Text>> {
     let mut srs = Vec::new(alloc);
     srs.push(Text::of(alloc, "urn:ogc:def:crs:EPSG::25832")?)?;
     srs.push(Text::of(alloc, "EPSG:25832")?)?;
+    Ok(List::of(srs))
+}
+
+// Marks, fields and ways, in two names of one reference system.
+fn schema(alloc: Global) -> Mem<Schema> {
     Ok(Schema {
         title: Text::of(alloc, "Marks")?,
         address: Text::of(alloc, "http://localhost:8080/wfs")?,
         space: Text::of(alloc, "http://example.org/marks")?,
         prefix: Text::of(alloc, "m")?,
-        srs: List::of(srs),
-        types: List::of(types),
+        srs: srs(alloc)?,
+        types: types(alloc)?,
     })
 }
 
@@ -174,46 +186,52 @@ fn fault_line(alloc: Global, fault: &AskFault) -> Mem<String> {
 
 // What a query asks, as a line: the type's number, what features are chosen by, the keys that they are sorted by, the page; or the
 // row and the locator of its refusal.
-fn told(alloc: Global, query: &str) -> Mem<String> {
-    let schema = schema(alloc)?;
-    match read_query(alloc, query, &schema) {
+fn told(alloc: Global, schema: &Schema, query: &str) -> Mem<String> {
+    match read_query(alloc, query, schema) {
         Ok(request) => request_line(alloc, &request),
         Err(fault) => fault_line(alloc, &fault),
     }
 }
 
-// The beginning of the links of a request.
-fn link(alloc: Global, query: &str) -> Mem<String> {
-    let schema = schema(alloc)?;
-    let mut line = String::new(alloc);
-    if let Ok(Request::GetFeatures(present, _)) = read_query(alloc, query, &schema) {
-        if let Some(text) = &present.link {
-            line.push_str(text.as_str())?;
+fn is_told(alloc: Global, schema: &Schema, query: &str, line: &str) -> Mem<bool> {
+    Ok(told(alloc, schema, query)?.as_str() == line)
+}
+
+// How the queries begin that ask for features.
+const FEATURES: &str = "service=WFS&request=GetFeature&";
+
+fn is_told_behind(
+    alloc: Global,
+    schema: &Schema,
+    before: &str,
+    rest: &str,
+    line: &str,
+) -> Mem<bool> {
+    let query = format!(in alloc; "{before}{rest}")?;
+    is_told(alloc, schema, query.as_str(), line)
+}
+
+// The first row of a table of which another line is told than it says.
+fn first_mistold(
+    alloc: Global,
+    schema: &Schema,
+    before: &str,
+    rows: &'static [(&'static str, &'static str)],
+) -> Mem<Option<&'static str>> {
+    for row in rows {
+        let (rest, line) = *row;
+        if !is_told_behind(alloc, schema, before, rest, line)? {
+            return Ok(Some(rest));
         }
     }
-    Ok(line)
+    Ok(None)
 }
 
-fn feature_query(alloc: Global, rest: &str) -> Mem<String> {
-    let mut query = String::new(alloc);
-    query.push_str("service=WFS&request=GetFeature&")?;
-    query.push_str(rest)?;
-    Ok(query)
-}
-
-fn is_told_whole(alloc: Global, query: &str, line: &str) -> Mem<bool> {
-    Ok(told(alloc, query)?.as_str() == line)
-}
-
-fn is_told(alloc: Global, rest: &str, line: &str) -> Mem<bool> {
-    let query = feature_query(alloc, rest)?;
-    is_told_whole(alloc, query.as_str(), line)
-}
-
-fn is_linked(alloc: Global, rest: &str, line: &str) -> Mem<bool> {
-    let query = feature_query(alloc, rest)?;
-    let mut whole = String::new(alloc);
-    whole.push_str("http://localhost:8080/wfs?service=WFS&request=GetFeature&")?;
-    whole.push_str(line)?;
-    Ok(link(alloc, query.as_str())?.as_str() == whole.as_str())
+fn mistold(
+    alloc: Global,
+    before: &str,
+    rows: &'static [(&'static str, &'static str)],
+) -> Mem<Option<&'static str>> {
+    let schema = schema(alloc)?;
+    first_mistold(alloc, &schema, before, rows)
 }

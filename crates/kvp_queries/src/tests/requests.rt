@@ -1,7 +1,6 @@
 //! Types, resource ids, pages and links.
 
 use super::*;
-use std::test::Fail;
 
 // What is asked, behind `service=WFS&request=GetFeature&`.
 static ASKED: [(&str, &str); 32] = [
@@ -195,37 +194,63 @@ static LINKS: [(&str, &str); 9] = [
 ];
 
 #[test]
-fn reads_what_is_asked(rt: HostRuntime) -> Result<(), Fail> {
-    for row in ASKED.iter() {
-        let (query, line) = *row;
-        assert!(rt; is_told(rt.alloc(), query, line)?, "{query}");
-    }
-    Ok(())
+fn reads_what_is_asked(rt: HostRuntime) {
+    assert_eq!(rt; mistold(rt.alloc(), FEATURES, &ASKED), Ok(None));
 }
 
 #[test]
-fn refuses_by_the_base_of_the_request(rt: HostRuntime) -> Result<(), Fail> {
-    for row in REFUSED.iter() {
-        let (query, line) = *row;
-        assert!(rt; is_told_whole(rt.alloc(), query, line)?, "{query}");
-    }
-    Ok(())
+fn refuses_by_the_base_of_the_request(rt: HostRuntime) {
+    assert_eq!(rt; mistold(rt.alloc(), "", &REFUSED), Ok(None));
 }
 
 #[test]
-fn names_what_is_wrong_first(rt: HostRuntime) -> Result<(), Fail> {
-    for row in WRONG.iter() {
-        let (query, line) = *row;
-        assert!(rt; is_told(rt.alloc(), query, line)?, "{query}");
-    }
-    Ok(())
+fn names_what_is_wrong_first(rt: HostRuntime) {
+    assert_eq!(rt; mistold(rt.alloc(), FEATURES, &WRONG), Ok(None));
 }
 
-#[test]
-fn writes_the_beginning_of_links(rt: HostRuntime) -> Result<(), Fail> {
+// How links begin.
+const LINK: &str = "http://localhost:8080/wfs?service=WFS&request=GetFeature&";
+
+// Whether the links of a request begin with this behind the address.
+fn is_link(request: &Request, line: &str) -> bool {
+    let Request::GetFeatures(present, _) = request else {
+        return false;
+    };
+    match &present.link {
+        Some(link) => link.as_str().strip_prefix(LINK) == Some(line),
+        None => false,
+    }
+}
+
+fn is_query_linked(alloc: Global, schema: &Schema, query: &str, line: &str) -> bool {
+    match read_query(alloc, query, schema) {
+        Ok(request) => is_link(&request, line),
+        Err(_) => false,
+    }
+}
+
+fn is_linked(alloc: Global, schema: &Schema, rest: &str, line: &str) -> Mem<bool> {
+    let query = format!(in alloc; "{FEATURES}{rest}")?;
+    Ok(is_query_linked(alloc, schema, query.as_str(), line))
+}
+
+// The first row of `LINKS` that has another link.
+fn first_mislinked(alloc: Global, schema: &Schema) -> Mem<Option<&'static str>> {
     for row in LINKS.iter() {
-        let (query, line) = *row;
-        assert!(rt; is_linked(rt.alloc(), query, line)?, "{query}");
+        let (rest, line) = *row;
+        if !is_linked(alloc, schema, rest, line)? {
+            return Ok(Some(rest));
+        }
     }
-    Ok(())
+    Ok(None)
+}
+
+fn mislinked(alloc: Global) -> Mem<Option<&'static str>> {
+    let schema = schema(alloc)?;
+    first_mislinked(alloc, &schema)
+}
+
+#[test]
+fn writes_the_beginning_of_links(rt: HostRuntime) {
+    assert_eq!(rt; mislinked(rt.alloc()), Ok(None));
 }

@@ -1,7 +1,6 @@
 //! Boxes, filters and orders.
 
 use super::*;
-use std::test::Fail;
 
 // What features are chosen by and sorted by, behind `service=WFS&request=GetFeature&`.
 static CHOSEN: [(&str, &str); 24] = [
@@ -211,19 +210,11 @@ static UNCHOSEN: [(&str, &str); 55] = [
 ];
 
 #[test]
-fn reads_what_chooses_and_sorts_features(rt: HostRuntime) -> Result<(), Fail> {
-    for row in CHOSEN.iter() {
-        let (query, line) = *row;
-        assert!(rt; is_told(rt.alloc(), query, line)?, "{query}");
-    }
-    Ok(())
+fn reads_what_chooses_and_sorts_features(rt: HostRuntime) {
+    assert_eq!(rt; mistold(rt.alloc(), FEATURES, &CHOSEN), Ok(None));
 }
 
 #[test]
-fn refuses_by_the_first_fault_of_a_choice(rt: HostRuntime) -> Result<(), Fail> {
-    for row in UNCHOSEN.iter() {
-        let (query, line) = *row;
-        assert!(rt; is_told(rt.alloc(), query, line)?, "{query}");
-    }
-    Ok(())
+fn refuses_by_the_first_fault_of_a_choice(rt: HostRuntime) {
+    assert_eq!(rt; mistold(rt.alloc(), FEATURES, &UNCHOSEN), Ok(None));
 }
