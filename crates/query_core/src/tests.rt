@@ -4,7 +4,6 @@ use super::*;
 use feature_values::{Feature, Rid, Value};
 use fes_filter::SortKey;
 use std::alloc::Global;
-use std::test::Fail;
 use wfs_ends::{List, Mem, Text};
 
 mod selects;
@@ -80,40 +79,78 @@ fn features(alloc: Global) -> Mem<Vec<Feature>> {
     Ok(all)
 }
 
-#[test]
-fn joins_each_feature_at_its_first_place(rt: HostRuntime) -> Result<(), Fail> {
-    let alloc = rt.alloc();
-    let first = ids(alloc, &[(0, 3), (0, 2)])?;
-    let more = ids(alloc, &[(0, 1), (0, 2), (1, 2), (0, 3)])?;
+/// Whether a list holds just these, in this order.
+fn are(found: &List<Rid>, wanted: &[Place]) -> bool {
+    let found = found.items();
+    if found.len() != wanted.len() {
+        return false;
+    }
+    for i in 0..found.len() {
+        if (found[i].kind, found[i].number) != wanted[i] {
+            return false;
+        }
+    }
+    true
+}
+
+/// What is listed, what comes behind it, and what is joined of both.
+static JOINED: [(&str, &[Place], &[Place], &[Place]); 2] = [
+    (
+        "some are there",
+        &[(0, 3), (0, 2)],
+        &[(0, 1), (0, 2), (1, 2), (0, 3)],
+        &[(0, 3), (0, 2), (0, 1), (1, 2)],
+    ),
+    ("behind none", &[], &[(0, 2)], &[(0, 2)]),
+];
+
+fn is_joined(alloc: Global, first: &[Place], more: &[Place], wanted: &[Place]) -> Mem<bool> {
+    let first = ids(alloc, first)?;
+    let more = ids(alloc, more)?;
     let all = join_rows(alloc, first, more)?;
-    assert!(rt;
-        all == ids(alloc, &[(0, 3), (0, 2), (0, 1), (1, 2)])?,
-        "joined"
-    );
-    let alone = join_rows(alloc, ids(alloc, &[])?, ids(alloc, &[(0, 2)])?)?;
-    assert!(rt; alone == ids(alloc, &[(0, 2)])?, "behind none");
-    Ok(())
+    Ok(are(&all, wanted))
+}
+
+fn first_misjoined(alloc: Global) -> Mem<Option<&'static str>> {
+    for row in JOINED.iter() {
+        let (what, first, more, wanted) = *row;
+        if !is_joined(alloc, first, more, wanted)? {
+            return Ok(Some(what));
+        }
+    }
+    Ok(None)
 }
 
 #[test]
-fn cuts_pages_out(rt: HostRuntime) -> Result<(), Fail> {
-    let alloc = rt.alloc();
+fn joins_each_feature_at_its_first_place(rt: HostRuntime) {
+    assert_eq!(rt; first_misjoined(rt.alloc()), Ok(None));
+}
+
+/// Where a page of two features begins, how many it has at most, and which it has.
+static PAGES: [(&str, u32, Option<u32>, &[Place]); 4] = [
+    ("past the end", 2, Some(5), &[]),
+    ("the second", 1, Some(1), &[(0, 2)]),
+    ("of no members", 0, Some(0), &[]),
+    ("all the rest", 1, None, &[(0, 2)]),
+];
+
+fn is_page(alloc: Global, start: u32, count: Option<u32>, wanted: &[Place]) -> Mem<bool> {
     let two = ids(alloc, &[(0, 1), (0, 2)])?;
-    assert!(rt;
-        page(alloc, &two, 2, Some(5))? == ids(alloc, &[])?,
-        "past the end"
-    );
-    assert!(rt;
-        page(alloc, &two, 1, Some(1))? == ids(alloc, &[(0, 2)])?,
-        "the second"
-    );
-    assert!(rt;
-        page(alloc, &two, 0, Some(0))? == ids(alloc, &[])?,
-        "of no members"
-    );
-    assert!(rt;
-        page(alloc, &two, 1, None)? == ids(alloc, &[(0, 2)])?,
-        "all the rest"
-    );
-    Ok(())
+    let found = page(alloc, &two, start, count)?;
+    Ok(are(&found, wanted))
+}
+
+fn first_miscut(alloc: Global) -> Mem<Option<&'static str>> {
+    for row in PAGES.iter() {
+        let (what, start, count, wanted) = *row;
+        if !is_page(alloc, start, count, wanted)? {
+            return Ok(Some(what));
+        }
+    }
+    Ok(None)
+}
+
+#[test]
+fn cuts_pages_out(rt: HostRuntime) {
+    assert_eq!(rt; first_miscut(rt.alloc()), Ok(None));
 }

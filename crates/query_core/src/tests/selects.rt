@@ -3,14 +3,13 @@
 ghost use Rattle.std.specs.Prelude.{◌≡◌, ◌<◌};
 
 use super::views::{SampleView, sample};
-use super::{LABEL, Place, SIZE, ids, words};
+use super::{LABEL, Place, SIZE, are, words};
 use crate::select;
 use feature_values::{Rid, Value};
 use fes_filter::{By, Expr, Filter, IdRef, Query, Steps};
 use std::alloc::Global;
 use std::marker::Brand;
 use std::sync::ledger::{Blank, Ledger};
-use std::test::Fail;
 use wfs_ends::{Boxed, List, Mem};
 
 fn counted<L: Ledger>(
@@ -32,6 +31,11 @@ pub fn selected(alloc: Global, view: &SampleView, query: &Query) -> Mem<List<Rid
     counted::<Brand>(alloc, view, query, Blank::new(1))
 }
 
+fn is_selected(alloc: Global, view: &SampleView, query: &Query, wanted: &[Place]) -> Mem<bool> {
+    let found = selected(alloc, view, query)?;
+    Ok(are(&found, wanted))
+}
+
 /// Whether a query without keys selects these.
 fn selects(
     alloc: Global,
@@ -42,8 +46,7 @@ fn selects(
 ) -> Mem<bool> {
     let sort = List::of(Vec::new(alloc));
     let query = Query { kind, filter, sort };
-    let found = selected(alloc, view, &query)?;
-    Ok(found == ids(alloc, wanted)?)
+    is_selected(alloc, view, &query, wanted)
 }
 
 static TYPES: [(&str, Option<u32>, &[Place]); 5] = [
@@ -58,15 +61,24 @@ static TYPES: [(&str, Option<u32>, &[Place]); 5] = [
     ("a type without features", Some(3), &[]),
 ];
 
-#[test]
-fn selects_the_features_of_a_type(rt: HostRuntime) -> Result<(), Fail> {
-    let alloc = rt.alloc();
-    let view = sample(alloc)?;
+fn first_wrong_type(alloc: Global, view: &SampleView) -> Mem<Option<&'static str>> {
     for row in TYPES.iter() {
         let (what, kind, wanted) = *row;
-        assert!(rt; selects(alloc, &view, kind, None, wanted)?, "{what}");
+        if !selects(alloc, view, kind, None, wanted)? {
+            return Ok(Some(what));
+        }
     }
-    Ok(())
+    Ok(None)
+}
+
+fn wrong_type(alloc: Global) -> Mem<Option<&'static str>> {
+    let view = sample(alloc)?;
+    first_wrong_type(alloc, &view)
+}
+
+#[test]
+fn selects_the_features_of_a_type(rt: HostRuntime) {
+    assert_eq!(rt; wrong_type(rt.alloc()), Ok(None));
 }
 
 fn equals(property: u32, value: Value) -> Filter {
@@ -153,16 +165,51 @@ fn by_label_or_identifiers(alloc: Global, view: &SampleView) -> Mem<bool> {
     selects(alloc, view, None, Some(filter), &[(0, 1), (0, 4), (1, 1)])
 }
 
-#[test]
-fn selects_what_passes_a_filter(rt: HostRuntime) -> Result<(), Fail> {
-    let alloc = rt.alloc();
+fn wrong_list(alloc: Global, view: &SampleView) -> Mem<Option<&'static str>> {
+    if !by_identifiers(alloc, view)? {
+        return Ok(Some("identifiers"));
+    }
+    if !by_no_identifier(alloc, view)? {
+        return Ok(Some("no identifier"));
+    }
+    if !by_other_identifiers(alloc, view)? {
+        return Ok(Some("other identifiers"));
+    }
+    Ok(None)
+}
+
+fn wrong_operator(alloc: Global, view: &SampleView) -> Mem<Option<&'static str>> {
+    if !by_label(alloc, view)? {
+        return Ok(Some("a label"));
+    }
+    if !by_other_size(alloc, view)? {
+        return Ok(Some("another size"));
+    }
+    if !by_label_and_identifiers(alloc, view)? {
+        return Ok(Some("a label and identifiers"));
+    }
+    if !by_label_or_identifiers(alloc, view)? {
+        return Ok(Some("a label or identifiers"));
+    }
+    Ok(None)
+}
+
+fn wrong_among_lists(alloc: Global) -> Mem<Option<&'static str>> {
     let view = sample(alloc)?;
-    assert!(rt; by_label(alloc, &view)?);
-    assert!(rt; by_other_size(alloc, &view)?);
-    assert!(rt; by_identifiers(alloc, &view)?);
-    assert!(rt; by_no_identifier(alloc, &view)?);
-    assert!(rt; by_other_identifiers(alloc, &view)?);
-    assert!(rt; by_label_and_identifiers(alloc, &view)?);
-    assert!(rt; by_label_or_identifiers(alloc, &view)?);
-    Ok(())
+    wrong_list(alloc, &view)
+}
+
+fn wrong_among_operators(alloc: Global) -> Mem<Option<&'static str>> {
+    let view = sample(alloc)?;
+    wrong_operator(alloc, &view)
+}
+
+#[test]
+fn selects_what_is_listed(rt: HostRuntime) {
+    assert_eq!(rt; wrong_among_lists(rt.alloc()), Ok(None));
+}
+
+#[test]
+fn selects_what_passes_a_filter(rt: HostRuntime) {
+    assert_eq!(rt; wrong_among_operators(rt.alloc()), Ok(None));
 }
