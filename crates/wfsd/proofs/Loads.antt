@@ -1,8 +1,7 @@
 -- What a source's bytes mean as a schema.
-use Rattle.std.proofs.Common.{◌≡◌, ℕ, ◌<◌, ◌≤◌, true, false, List, length, Option, Some, None, Result, Ok, Err, refl, sym, ◌∙◌, arith}
+use Rattle.std.proofs.Common.{◌≡◌, ℕ, ◌<◌, ◌≤◌, true, false, List, length, Option, Some, None, Result, Ok, Err, refl, ◌∙◌, arith}
 use Rattle.std.specs.Prelude.{IfSome, nat_lt}
 use Rattle.wfs_ends.specs.Ends.{Shown}
-use Rattle.wfs_ends.specs.Read.{GivesBut}
 use Rattle.feature_values.specs.declared.schema.Schema.{Schema}
 use Rattle.feature_schema.specs.declared.fault.SchemaFault.{SchemaFault}
 use Rattle.feature_schema.specs.declared.fault.SchemaFault.TheVariants as fault

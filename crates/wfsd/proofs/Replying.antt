@@ -1,5 +1,5 @@
 -- An answer that was given is that of the message.
-use Rattle.std.proofs.Common.{◌≡◌, ℕ, Bool, false, List, Option, Result, Ok, Err, inl, inr, refl, sym, ap, ◌∙◌}
+use Rattle.std.proofs.Common.{◌≡◌, ℕ, Bool, false, List, Option, Result, Ok, Err, inl, inr, refl, ap, ◌∙◌}
 use Rattle.std.specs.Prelude.{◌||◌, IfSome, Some, slice_get}
 use Rattle.wfs_ends.specs.Ends.{Shown, later}
 use Rattle.wfs_ends.specs.declared.fault.WriteFault.{WriteFault}

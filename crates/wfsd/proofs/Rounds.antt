@@ -1,25 +1,23 @@
 -- What a round comes to, by what the reader answered and by what was given then.
-use Rattle.std.proofs.Common.{◌≡◌, ℕ, ◌-◌, ◌≤◌, Bool, true, false, List, [], ◌++◌, Option, Some, None, Result, Ok, Err, inl, inr, refl, sym, ap, ◌∙◌, arith, append_assoc, append-nil}
-use Rattle.std.specs.Prelude.{◌==◌, ◌⊎◌, ◌||◌, IfSome, slice_get}
-use Rattle.wfs_ends.specs.Ends.{Shown, Rose, KeepsLeft, GivesAll, GivesFront, given_more, later_of, later}
+use Rattle.std.proofs.Common.{◌≡◌, ℕ, ◌-◌, ◌≤◌, Bool, true, false, List, [], ◌++◌, Option, Some, None, Result, Ok, Err, inl, inr, refl, sym, ap, ◌∙◌, arith, append_assoc}
+use Rattle.std.specs.Prelude.{◌==◌, ◌||◌, IfSome}
+use Rattle.wfs_ends.specs.Ends.{Shown, KeepsLeft, GivesAll, GivesFront, given_more, later_of, later}
 use Rattle.wfs_ends.specs.declared.fault.WriteFault.{WriteFault}
-use Rattle.wfs_ends.proofs.Given.{given_twice, given_nil}
+use Rattle.wfs_ends.proofs.Given.{given_twice}
 use Rattle.http_session.specs.declared.message.Ending.{Ending}
-use Rattle.http_session.specs.declared.message.Ending.TheVariants as ending
 use Rattle.http_session.specs.declared.message.Message.{Message}
-use Rattle.http_session.specs.declared.message.Next.{Next}
 use Rattle.http_session.specs.declared.message.Next.TheVariants as next
-use Rattle.http_session.specs.Frames.{message, ended, IsNext}
+use Rattle.http_session.specs.Frames.{ended, IsNext}
 use Rattle.http_session.specs.Reading.{ahead, after_buffer, Reached}
-use Rattle.http_session.specs.Answers.{Reads, Answers, interim, continue_line, Awaits, HasPlan, GaveFront}
+use Rattle.http_session.specs.Answers.{Reads, Answers, interim}
 use Rattle.reply_documents.specs.Refusals.{fixed_text}
 use Rattle.wfsd.specs.declared.ending.SessionEnd.{SessionEnd}
 use Rattle.wfsd.specs.declared.ending.SessionEnd.TheVariants as end
 use Rattle.wfsd.specs.declared.round.Round.{Round}
 use Rattle.wfsd.specs.declared.round.Round.TheVariants as round
-use Rattle.wfsd.specs.Served.{Served, Answer, IsAnswer, given_answer, refused_for_memory, judged, end_by, is_not_built}
-use Rattle.wfsd.specs.Session.{Point, IsAnswered, Final, final, final_at, row_of, Begins, Finishes, input_ended, input_cut, refused, answered, read_failed, line_failed, answer_failed, refusal_failed, no_memory, memory_failed, Stays, HasCause, IsAt, GoesOn, IsOver}
-use Rattle.wfsd.specs.Rounds.{GivesAnswer, Replies, HasGone, RoundCause, IsRound, round_of, IsRefused, IsGivenUp}
+use Rattle.wfsd.specs.Served.{Served, Answer, IsAnswer, judged, end_by, is_not_built}
+use Rattle.wfsd.specs.Session.{Point, IsAnswered, final, final_at, row_of, input_ended, input_cut, refused, answered, read_failed, line_failed, answer_failed, refusal_failed, no_memory, memory_failed, Stays, HasCause, IsAt, GoesOn, IsOver}
+use Rattle.wfsd.specs.Rounds.{Replies, IsRound, round_of, IsRefused, IsGivenUp}
 
 -- ---- answers
 

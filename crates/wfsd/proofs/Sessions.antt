@@ -1,14 +1,13 @@
 -- A session, round by round.
-use Rattle.std.proofs.Common.{◌≡◌, ℕ, ◌-◌, ◌<◌, ◌≤◌, Bool, true, false, List, [], ◌++◌, Option, Some, None, refl, sym, ap, ◌∙◌, arith}
+use Rattle.std.proofs.Common.{◌≡◌, ℕ, ◌-◌, ◌<◌, false, List, [], Option, Some, None, refl, ◌∙◌, arith}
 use Rattle.std.specs.Prelude.{◌==◌, IfSome}
 use Rattle.wfs_ends.specs.Ends.{Shown}
 use Rattle.wfs_ends.proofs.Given.{given_nil}
-use Rattle.http_session.specs.Reading.{after_buffer}
 use Rattle.wfsd.specs.declared.ending.SessionEnd.{SessionEnd}
 use Rattle.wfsd.specs.declared.ending.SessionEnd.TheVariants as end
 use Rattle.wfsd.specs.declared.round.Round.TheVariants as round
 use Rattle.wfsd.specs.Served.{Served}
-use Rattle.wfsd.specs.Session.{Point, begun, most_messages, Reaches, here, on, Stays, HasCause, IsHeld, WhereTold, IsSession, IsAt}
+use Rattle.wfsd.specs.Session.{Point, begun, most_messages, Reaches, here, on, Stays, HasCause, WhereTold, IsSession, IsAt}
 use Rattle.wfsd.specs.Rounds.{IsRound}
 
 -- ---- what is told

@@ -1,11 +1,11 @@
 -- What a session over two ends comes to, and lines that are given.
 use Rattle.std.proofs.Common.{◌≡◌, ℕ, Bool, true, false, List, [], ◌∷◌, Option, Result, Ok, Err, inl, inr, ap}
 use base.Fml.{GName}
-use Rattle.wfs_ends.specs.Ends.{Shown, Writes, GivesAll, GivesFront, Gives, lent}
+use Rattle.wfs_ends.specs.Ends.{Shown, Writes, Gives, lent}
 use Rattle.wfsd.specs.declared.ending.SessionEnd.{SessionEnd}
 use Rattle.wfsd.specs.declared.ending.SessionEnd.TheVariants as end
 use Rattle.wfsd.specs.Served.{Served}
-use Rattle.wfsd.specs.Session.{HasCause, WhereTold, IsSession}
+use Rattle.wfsd.specs.Session.{HasCause, IsSession}
 use Rattle.std.specs.Prelude.{IfSome}
 use Rattle.feature_values.specs.declared.schema.Schema.{Schema}
 use Rattle.wfsd.specs.Talk.{GivesOr, Ends, link_old, link_new, loaded, Talks, held, no_memory, IsTalkOver}

@@ -1,5 +1,5 @@
 -- What the loading of the schema comes to.
-use Rattle.std.specs.Prelude.{◌≡◌, Option, IfSome, Result, Ok, Err, ⊤}
+use Rattle.std.specs.Prelude.{◌≡◌, IfSome, Result, Ok, Err, ⊤}
 use Rattle.wfs_ends.specs.Ends.{Shown, Rose}
 use Rattle.feature_values.specs.declared.schema.Schema.{Schema}
 use Rattle.feature_schema.specs.declared.fault.SchemaFault.{SchemaFault}

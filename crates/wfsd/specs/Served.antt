@@ -7,7 +7,7 @@ use Rattle.wfs_machine.specs.declared.request.Request.{Request}
 use Rattle.wfs_machine.specs.declared.request.Request.TheVariants.{GetFeatures, Transact}
 use Rattle.wfs_machine.specs.declared.reply.Refusal.{Refusal}
 use Rattle.wfs_machine.specs.declared.reply.Reply.{Reply}
-use Rattle.wfs_machine.specs.declared.reply.Reply.TheVariants.{Collection, Transacted, Refused}
+use Rattle.wfs_machine.specs.declared.reply.Reply.TheVariants.{Refused}
 use Rattle.wfs_machine.specs.declared.fault.AskFault.{AskFault}
 use Rattle.wfs_machine.specs.declared.fault.AskFault.TheVariants as ask
 use Rattle.wfs_machine.specs.State.{State, first_state}

@@ -1,13 +1,12 @@
 -- What a session over one input and one output comes to.
-use Rattle.std.specs.Prelude.{◌≡◌, ℕ, ◌-◌, ◌≤◌, ◌==◌, Bool, true, false, List, [], ◌++◌, Option, Some, None, IfSome, slice_get, codes, ⊤}
-use Rattle.wfs_ends.specs.Ends.{Shown, Rose, AllGrow, given_more, later_of}
+use Rattle.std.specs.Prelude.{◌≡◌, ℕ, ◌-◌, ◌≤◌, ◌==◌, Bool, true, List, [], ◌++◌, Option, Some, None, IfSome, slice_get, ⊤}
+use Rattle.wfs_ends.specs.Ends.{Shown, Rose, given_more, later_of}
 use Rattle.http_session.specs.declared.message.Ending.{Ending}
 use Rattle.http_session.specs.declared.message.Ending.TheVariants as ending
 use Rattle.http_session.specs.declared.message.Message.{Message}
-use Rattle.http_session.specs.Frames.{Frame, message, ended, IsNext}
+use Rattle.http_session.specs.Frames.{message, ended, IsNext}
 use Rattle.http_session.specs.Answers.{interim, continue_line, Awaits, HasPlan}
 use Rattle.http_session.specs.Reading.{ahead}
-use Rattle.feature_values.specs.declared.schema.Schema.{Schema}
 use Rattle.reply_documents.specs.Refusals.{fixed_text}
 use Rattle.wfsd.specs.declared.ending.SessionEnd.{SessionEnd}
 use Rattle.wfsd.specs.declared.ending.SessionEnd.TheVariants as end

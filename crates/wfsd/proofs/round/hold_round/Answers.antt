@@ -1,4 +1,4 @@
-use Rattle.std.proofs.Common.{refl, ap, sym}
+use Rattle.std.proofs.Common.{refl, sym}
 use Rattle.http_session.specs.declared.message.Ending.TheVariants as ending
 use Rattle.wfsd.proofs.Rounds.{answered_round, ended_round, cut_round, refused_round, read_failed_round, line_failed_round, gave_up_round}
 use Rattle.wfsd.proofs.round.hold_round.Goals as goal

@@ -1,4 +1,4 @@
-use Rattle.std.proofs.Common.{rules, ◌≡◌, ◌≤◌, ◌+◌, ◌-◌, length, take, arith}
+use Rattle.std.proofs.Common.{rules, ◌≤◌, length, take}
 use Rattle.wfsd.specs.Source.{Takes}
 use Rattle.wfsd.proofs.Filling.{takes_both, took, put_more}
 use Rattle.wfsd.proofs.source.fill.Goals as goal

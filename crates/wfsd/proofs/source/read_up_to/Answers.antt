@@ -1,6 +1,5 @@
-use Rattle.std.proofs.Common.{◌≡◌, ◌≤◌, ◌∙◌, ◌+◌, length, take, rules, arith}
-use Rattle.std.proofs.lemmas.List.{length-take-le}
-use Rattle.wfsd.proofs.Filling.{longer, whole}
+use Rattle.std.proofs.Common.{rules}
+use Rattle.wfsd.proofs.Filling.{longer}
 use Rattle.wfsd.proofs.source.read_up_to.Goals as goal
 
 pub returns-in-Whole : goal.returns-in-Whole

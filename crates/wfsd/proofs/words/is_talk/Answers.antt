@@ -1,6 +1,4 @@
-use Rattle.std.proofs.Common.{rules, ◌↔◌, IsTrue, map, ◌≡◌, List, [], ◌∷◌}
-use Rattle.std.specs.String.{string_bytes}
-use Rattle.wfsd.specs.Words.{IsTalk, IsFolder}
+use Rattle.std.proofs.Common.{rules}
 use Rattle.wfsd.proofs.Two.{two}
 use Rattle.wfsd.proofs.words.is_talk.Goals as goal
 
