@@ -34,7 +34,7 @@ equal_if false true true one two e = refl
 equal_if false true false one two e = absurd cc
 equal_if false false d one two e = absurd cc
 
-equality_is : (by : By) (r : Option (List ℕ)) → fold_by by r ≡ Ok true → is_equality by ≡ true
+pub equality_is : (by : By) (r : Option (List ℕ)) → fold_by by r ≡ Ok true → is_equality by ≡ true
 equality_is by None e = absurd cc
 equality_is by (Some value) e = equal_if (bytes_eq value (codes "true")) (bytes_eq value (codes "false")) (is_equality by) _ _ e
 

@@ -1,9 +1,12 @@
 pub mod Beside
 pub mod Built
+pub mod Children
 pub mod Compared
 pub mod Drawn
 pub mod Edges
+pub mod Fine
 pub mod Identifiers
+pub mod Judged
 pub mod Likes
 pub mod Named
 pub mod Parts
@@ -11,5 +14,6 @@ pub mod Patterns
 pub mod Places
 pub mod Ranges
 pub mod Readings
+pub mod Suits
 pub mod Values
 pub mod Whole

@@ -198,11 +198,11 @@ pub record IsLike (schema : Schema) (kind : Option ℕ) (f : Filter) : Type 0 wh
   pub parts : List LikePart
   pub is : f ≡ Like property parts
 
-module _ (schema : Schema) (kind : Option ℕ) (no_colon : list_any is_colon schema.prefix ≡ false) where
+module _ (schema : Schema) (kind : Option ℕ) where
   abbrev of_type : Option FeatureType
   of_type = type_in schema kind
 
-  like_is : (e : Element) (f : Filter) → like_of of_type e ≡ Ok f → IsLike schema kind f
+  pub like_is : (e : Element) (f : Filter) → like_of of_type e ≡ Ok f → IsLike schema kind f
   unfolding like_of
   like_is e f h =
       let ms = bind_ok (marks_of e) (λ ms. only_marks e >>= λ _. first_in e (out-Element e).children >>= λ a. named (codes "ValueReference") a.0 >>= λ _. property_at of_type a.0 >>= λ p. suited (is_words p.1) a.0 >>= λ _. pattern_behind ms p.0 e a.1) f h in
@@ -214,8 +214,8 @@ module _ (schema : Schema) (kind : Option ℕ) (no_colon : list_any is_colon sch
       let parts = pattern_is ms.0 e p.0.0 a.0.1 f suit.2 in
       record { property = p.0.0; of_kind = p.0.1; named_by = a.0.0; found = p.1; words = suited_is (is_words p.0.1) a.0.0 suit.0 suit.1; parts = parts.0; is = parts.1 }
 
-  pub like_again : (e : Element) (f : Filter) → like_of of_type e ≡ Ok f
+  pub like_again : list_any is_colon schema.prefix ≡ false → (e : Element) (f : Filter) → like_of of_type e ≡ Ok f
       → (i : ℕ) × (parts : List LikePart) × (f ≡ Like i parts) × (All IsScalar (flat_map part_characters parts) → like_of of_type (like_tree schema kind i parts) ≡ Ok f)
-  like_again e f h =
+  like_again no_colon e f h =
       let l = like_is e f h in
       (l.property, l.parts, l.is, λ scalars. like_written schema kind no_colon l.property l.parts l.of_kind l.named_by l.found l.words scalars ∙ ap Ok (sym l.is))

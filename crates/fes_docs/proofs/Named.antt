@@ -124,7 +124,7 @@ property_again (Some of_type) prefix name i k h e =
     let dropped : without_prefix (prefixed prefix (property_name (Some of_type) i)) ≡ without_prefix name = prefix_dropped prefix _ h ∙ name_is in
     ap (λ n. option_and_then (with_kind of_type) (property_named of_type n)) dropped ∙ e
 
-unknown_is : (name : List ℕ) (r : Option (ℕ × ValueKind)) (p : ℕ × ValueKind) → or_unknown name r ≡ Ok p → r ≡ Some p
+pub unknown_is : (name : List ℕ) (r : Option (ℕ × ValueKind)) (p : ℕ × ValueKind) → or_unknown name r ≡ Ok p → r ≡ Some p
 unknown_is name None p e = absurd cc
 unknown_is name (Some q) p e = ap Some (ok_is FilterDocFault q p e)
 

@@ -1,10 +1,11 @@
 -- The parts of operators, and the names of operators, as they are written and read.
-use Rattle.std.proofs.Common.{◌≡◌, ℕ, List, [], ◌∷◌, ◌++◌, map, Result, Ok, Err, refl, sym, ap, subst, ◌∙◌, append_assoc, arith}
-use Rattle.std.specs.Prelude.{codes, All}
+use Rattle.std.proofs.Common.{◌≡◌, ℕ, Bool, true, false, List, [], ◌∷◌, ◌++◌, map, Result, Ok, Err, refl, sym, ap, subst, ◌∙◌, append_assoc, arith}
+use Rattle.std.specs.Prelude.{codes, if◌then◌else◌, All}
 use Rattle.std.specs.List.{flat_map}
 use Rattle.std.specs.Char.{IsScalar}
 use Rattle.std.proofs.lemmas.List.{append-nil}
 use Rattle.wfs_ends.specs.Read.{◌>>=◌, each}
+use Rattle.wfs_ends.proofs.Turns.{ok_is}
 use Rattle.doc_tree.specs.declared.tree.QName.{QName}
 use Rattle.geom_core.specs.declared.geometry.Geometry.{Geometry}
 use Rattle.gml_docs.specs.RoundTrip.{IsGeometry}
@@ -25,6 +26,11 @@ use Rattle.fes_docs.specs.RoundTrip.{part_characters, characters_step, character
 use Rattle.fes_docs.proofs.Likes.{all_first}
 
 -- ---- readings, one after the other
+
+-- what is read where not too few are found
+pub enough : {A : Type 0} (b : Bool) (fault : FilterDocFault) (x y : A) → (if b then Err fault else Ok x) ≡ Ok y → (b ≡ false) × (x ≡ y)
+enough true fault x y e = absurd cc
+enough false fault x y e = (refl, ok_is FilterDocFault x y e)
 
 abbrev pub through : List Reading → ℕ → Result (List Filter × ℕ) FilterDocFault
 through [] n = Ok ([], n)

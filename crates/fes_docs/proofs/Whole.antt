@@ -5,9 +5,6 @@ use Rattle.std.specs.Str.{bytes_eq}
 use Rattle.wfs_ends.specs.Read.{◌>>=◌, each}
 use Rattle.wfs_ends.proofs.Turns.{bind_ok, if_ok, ok_is}
 use Rattle.doc_tree.specs.declared.tree.Element.{Element, out-Element}
-use Rattle.doc_tree.specs.declared.tree.Element.TheOpen.{Element-F}
-use Rattle.doc_tree.specs.declared.tree.Element.TheViews.{roll-Element, out-roll-Element}
-use Rattle.doc_tree.specs.declared.tree.Element.TheFolds.{ind-Element}
 use Rattle.feature_values.specs.declared.schema.Schema.{Schema}
 use Rattle.fes_filter.specs.Check.{most_operators}
 use Rattle.fes_filter.specs.declared.ids.IdRef.{IdRef}
@@ -28,6 +25,7 @@ use Rattle.fes_docs.specs.Ids.{id_at, next_id}
 use Rattle.fes_docs.specs.Written.{parent, compare_tree, like_tree, null_tree, between_tree, box_tree, shape_tree, id_tree, operator_step, operator_tree, content_by, filter_tree, comparison_name}
 use Rattle.fes_docs.specs.RoundTrip.{CanBeWritten, IsFilter, ReadsBack}
 use Rattle.fes_docs.proofs.Built.{no_more_at_end, has_name, parent_name, parent_children, parent_others, parent_named}
+use Rattle.fes_docs.proofs.Children.{HoldAll, by_children}
 use Rattle.fes_docs.proofs.Readings.{operator_is}
 use Rattle.fes_docs.proofs.Named.{same_text}
 use Rattle.fes_docs.proofs.Likes.{like_again}
@@ -35,7 +33,7 @@ use Rattle.fes_docs.proofs.Compared.{compare_again}
 use Rattle.fes_docs.proofs.Ranges.{between_again, null_again}
 use Rattle.fes_docs.proofs.Drawn.{box_again, drawn_again}
 use Rattle.fes_docs.proofs.Identifiers.{id_again, id_named, ids_again}
-use Rattle.fes_docs.proofs.Parts.{through, all_through, AreFilters, both_parts, either_parts, not_part, like_characters, meets_shape, apart_shape, fes, Names, compare_named, and_named, or_named, not_named, like_named, null_named, between_named, box_named, meets_named, apart_named, id_named_so}
+use Rattle.fes_docs.proofs.Parts.{enough, through, all_through, AreFilters, both_parts, either_parts, not_part, like_characters, meets_shape, apart_shape, fes, Names, compare_named, and_named, or_named, not_named, like_named, null_named, between_named, box_named, meets_named, apart_named, id_named_so}
 
 both : (a b : Bool) → (a && b) ≡ true → (a ≡ true) × (b ≡ true)
 both true b e = (refl, e)
@@ -48,10 +46,6 @@ resource_named t h =
     let parts = both (bytes_eq name.space fes_space) (bytes_eq name.local (codes "ResourceId")) h in
     let local : name.local ≡ codes "ResourceId" = same_text name.local (codes "ResourceId") parts.1 in
     rw (parts.0, local) id_named_so
-
-enough : {A : Type 0} (b : Bool) (fault : FilterDocFault) (x y : A) → (if b then Err fault else Ok x) ≡ Ok y → (b ≡ false) × (x ≡ y)
-enough true fault x y e = absurd cc
-enough false fault x y e = (refl, ok_is FilterDocFault x y e)
 
 -- ---- operators
 
@@ -158,8 +152,7 @@ module _ (parameters : Option (List (List ℕ))) (schema : Schema) (kind : Optio
   Back e = (n m : ℕ) (f : Filter) → read e n ≡ Ok (f, m) → IsFilter f → Again f n m
 
   abbrev AllBack : List Element → Type 0
-  AllBack [] = Unit {0}
-  AllBack (e ∷ es) = Back e × AllBack es
+  AllBack = HoldAll Back
 
   through_back : (es : List Element) → AllBack es → (n : ℕ) (found : List Filter × ℕ) → through (map read es) n ≡ Ok found → AreFilters found.0 → through (map read (map tree found.0)) n ≡ Ok found
   through_back [] all n found h are = subst (λ (x : List Filter × ℕ). through (map read (map tree x.0)) n ≡ Ok x) (ok_is FilterDocFault ([], n) found h) refl
@@ -279,14 +272,8 @@ module _ (parameters : Option (List (List ℕ))) (schema : Schema) (kind : Optio
       let k = bind_ok (counted n) (λ k. operation parameters schema kind e (inner e) operator.0 k) (f, m) operator.2 in
       operated_back operator.0 e all n k.0 m f k.1 k.2 is
 
-  all_back : (es : List ((e : Element) × Back e)) → AllBack (map (λ e. e.0) es)
-  all_back [] = tt
-  all_back (e ∷ es) = (e.1, all_back es)
-
   back : (e : Element) → Back e
-  back = ind-Element Back (λ x y is.
-      let children : AllBack x.children = subst (λ z. AllBack z.children) is (all_back y.children) in
-      step_back (roll-Element x) (subst AllBack (sym (ap (λ (o : Element-F Element). o.children) (out-roll-Element x))) children))
+  back = by_children Back step_back
 
   -- ---- the whole
 

@@ -1,3 +1,4 @@
+pub mod Allowed
 pub mod Filters
 pub mod Ids
 pub mod Like

@@ -1,3 +1,4 @@
+ghost use Rattle.fes_docs.specs.Allowed.{ReadIsAllowed};
 ghost use Rattle.fes_docs.specs.RoundTrip.{ReadsBack};
 
 /// The element that `filter_tree` or `filter_tree_in` writes for a filter reads back as that filter, where `read_filter`
@@ -7,4 +8,12 @@ ghost use Rattle.fes_docs.specs.RoundTrip.{ReadsBack};
 /// is asked for here.
 pub fn round_trip()
     ensures { ReadsBack }
+{}
+
+/// Nothing is wrong with a filter that `read_filter` or `read_filter_in` gave for some element: `fes_filter`'s `check` of
+/// it, for the same schema and type, finds no fault.
+///
+/// So a request that was read keeps the condition under which its filters are judged, and nobody has to check them again.
+pub fn read_is_allowed()
+    ensures { ReadIsAllowed }
 {}

@@ -19,7 +19,7 @@ mod write;
 mod written;
 
 pub use fault::FilterDocFault;
-pub use laws::round_trip;
+pub use laws::{read_is_allowed, round_trip};
 pub use read::{read_filter, read_filter_in};
 pub use write::{filter_tree, filter_tree_in};
 
