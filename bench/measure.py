@@ -71,6 +71,21 @@ def xmllint_time(body: bytes):
     return least_time(["xmllint", "--noout", "--huge", "-"], body, 0)
 
 
+def can_count() -> bool:
+    """Whether instructions can be counted here."""
+    return shutil.which("valgrind") is not None
+
+
+def instructions(body: bytes) -> int:
+    """How many instructions the program takes for this body and its start."""
+    with tempfile.TemporaryDirectory() as folder:
+        counts = os.path.join(folder, "counts")
+        command = ["valgrind", "--tool=callgrind", "--callgrind-out-file=" + counts] + session()
+        subprocess.run(command, input=message(body), stdout=subprocess.DEVNULL, stderr=subprocess.DEVNULL, check=True)
+        with open(counts, encoding="ascii") as lines:
+            return next(int(line.split()[1]) for line in lines if line.startswith("totals:"))
+
+
 def verdict(what: str, ratio: float, most: float) -> bool:
     good = ratio <= most
     print("%-60s %6.2f (at most %.1f)%s" % (what, ratio, most, "" if good else "  TOO MUCH"))
