@@ -1,0 +1,7 @@
+pub mod Firsts
+pub mod Keeping
+pub mod Layings
+pub mod Mapped
+pub mod Nearby
+pub mod Ordered
+pub mod Rising

@@ -1,0 +1,8 @@
+use Rattle.std.proofs.Common.{Some, refl}
+use Rattle.std.proofs.lemmas.Result.{on_ok_weaker}
+use Rattle.feature_overlay.proofs.Layings.{laid_over}
+use Rattle.feature_overlay.proofs.overlay.Overlay.put.Goals as goal
+
+pub returns-clause-ok : goal.returns-clause-ok
+returns-clause-ok g c =
+    on_ok_weaker c.change.result (λ is. laid_over (g.V.FeatureView.features c.args.self.now.view.now) c.args.self.now.changes.entries c.change.new.changes.entries c.args.feature.id (Some c.args.feature) c.args.self.now.in_order c.args.self.now.keyed (c.change.ensures.keyed refl c.args.self.now.keyed) refl is) c.change.ensures.ok

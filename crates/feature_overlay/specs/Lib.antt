@@ -1,0 +1,4 @@
+pub mod Changed
+pub mod First
+pub mod InOrder
+pub mod Laid
