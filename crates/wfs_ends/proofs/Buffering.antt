@@ -1,19 +1,19 @@
 -- A buffer that passes on what it holds.
 use base.Fml.{GName}
-use Rattle.std.proofs.Common.{◌≡◌, ℕ, ◌+◌, ◌-◌, List, [], ◌∷◌, ◌++◌, length, take, drop, Option, Some, None, Result, Ok, Err, refl, sym, ap, ◌∙◌, append_assoc, arith}
-use Rattle.std.proofs.lemmas.List.{take-append-drop, take_rest, drop-drop, append-nil, append_cancel_left}
+use Rattle.std.proofs.Common.{◌≡◌, ℕ, ◌+◌, ◌-◌, List, [], ◌∷◌, ◌++◌, length, take, drop, Result, Ok, Err, refl, sym, ap, ◌∙◌, append_assoc, arith}
+use Rattle.std.proofs.lemmas.List.{length-take, take-append-drop, take_rest, drop-drop, append-nil, append_cancel_left}
 use Rattle.std.specs.Prelude.{IfOk, OnErr}
-use Rattle.wfs_ends.specs.Ends.{Shown, KeepsLeft, GivesAll, GivesFront, Grows, Rose, behind_buffer, given_more}
-use Rattle.wfs_ends.proofs.Given.{given_nil, given_twice, grows_on, keeps_on}
+use Rattle.wfs_ends.specs.Ends.{Given, Untold, Told, Counted, Shown, KeepsLeft, GivesAll, GivesFront, Grows, Rose, behind_buffer, given_more}
+use Rattle.wfs_ends.proofs.Given.{same_number, given_nil, given_twice, grows_on, keeps_on}
 
 -- the next bytes are passed on, and the others are held still
-pub passed_next : (mid new : Option (List ℕ)) (bytes : List ℕ) (sent n : ℕ) → new ≡ given_more mid (take n (take (length bytes - sent) (drop sent bytes))) → given_more new (drop (sent + n) bytes) ≡ given_more mid (drop sent bytes)
+pub passed_next : (mid new : Given) (bytes : List ℕ) (sent n : ℕ) → new ≡ given_more mid (take n (take (length bytes - sent) (drop sent bytes))) → given_more new (drop (sent + n) bytes) ≡ given_more mid (drop sent bytes)
 passed_next mid new bytes sent n e = ap (λ o. given_more o (drop (sent + n) bytes)) e
     ∙ given_twice mid _ _
     ∙ ap (given_more mid) (ap (λ (x : List ℕ). take n x ++ drop (sent + n) bytes) (take_rest bytes sent) ∙ ap (λ (x : List ℕ). take n (drop sent bytes) ++ x) (sym (drop-drop n sent bytes)) ∙ take-append-drop n (drop sent bytes))
 
 -- what grew once more
-pub grows_next : (first mid new : Option (List ℕ)) (text : List ℕ) → Grows first mid → new ≡ given_more mid text → Grows first new
+pub grows_next : (first mid new : Given) (text : List ℕ) → Grows first mid → new ≡ given_more mid text → Grows first new
 grows_next first mid new text g e = grows_on g (record { more = text; is = e })
 
 -- a sink behind a buffer keeps what the sink keeps
@@ -29,23 +29,28 @@ unfolding tail_of
 keeps_within a b h h' old new k = record { left = k.left; takes = k.takes; passed = k.passed.1; puts = k.puts; place = ap (λ p. tail_of (tail_of p)) k.place }
 
 -- what a front of a text through a buffer is to the sink behind it: some front of that front was passed on
-record Reached (old new : Option (List ℕ)) (text : List ℕ) : Type 0 where
+record Reached (old new : Given) (text : List ℕ) : Type 0 where
   front : List ℕ
   rest : List ℕ
   parts : text ≡ front ++ rest
   given : new ≡ given_more old front
 
-bytes_of : Option (List ℕ) → List ℕ
-bytes_of None = []
-bytes_of (Some bytes) = bytes
+bytes_of : Given → List ℕ
+bytes_of Untold = []
+bytes_of (Told bytes) = bytes
+bytes_of (Counted n) = []
 
-reached : (old new : Option (List ℕ)) (held text : List ℕ) → Grows old new → given_more new held ≡ given_more (given_more old []) text → Reached old new text
+reached : (old new : Given) (held text : List ℕ) → Grows old new → given_more new held ≡ given_more (given_more old []) text → Reached old new text
 unfolding bytes_of
-reached None new held text g e = record { front = []; rest = text; parts = refl; given = g.is }
-reached (Some first) new held text g e = record { front = g.more; rest = held; parts = append_cancel_left first text (g.more ++ held) same; given = g.is }
+reached Untold new held text g e = record { front = []; rest = text; parts = refl; given = g.is }
+reached (Told first) new held text g e = record { front = g.more; rest = held; parts = append_cancel_left first text (g.more ++ held) same; given = g.is }
   where
     same : first ++ text ≡ first ++ (g.more ++ held)
     same = ap (λ (x : List ℕ). x ++ text) (sym (append-nil first)) ∙ ap bytes_of (sym e ∙ ap (λ o. given_more o held) g.is) ∙ append_assoc first g.more held
+reached (Counted n) new held text g e = record { front = take (length g.more) text; rest = drop (length g.more) text; parts = sym (take-append-drop (length g.more) text); given = g.is ∙ ap Counted (omega (arith, within, length-take (length g.more) text)) }
+  where
+    within : n + length g.more + length held ≡ n + 0 + length text
+    within = same_number _ _ (ap (λ o. given_more o held) (sym g.is) ∙ e)
 
 pub front_through : (a b : GName) (held text : List ℕ) (first now : Shown) → GivesFront (behind_buffer a b [] first) text (behind_buffer a b held now) → GivesFront first text now
 front_through a b held text first now g = record {
@@ -80,6 +85,6 @@ cut_through a b held still text first mid now g e more k c = record {
     r = reached first.given now.given still text (grows_on g.keeps.passed.0 more) (e ∙ g.given)
 
 -- what one put gave
-pub grows_put : {E : Type 0} (r : Result ℕ E) (old new : Option (List ℕ)) (piece : List ℕ) → IfOk r (λ n. new ≡ given_more old (take n piece)) → OnErr r (new ≡ old) → Grows old new
+pub grows_put : {E : Type 0} (r : Result ℕ E) (old new : Given) (piece : List ℕ) → IfOk r (λ n. new ≡ given_more old (take n piece)) → OnErr r (new ≡ old) → Grows old new
 grows_put (Ok n) old new piece e f = record { more = take n piece; is = e }
 grows_put (Err _) old new piece e f = record { more = []; is = f ∙ given_nil old }

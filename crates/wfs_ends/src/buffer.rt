@@ -1,3 +1,5 @@
+//! A buffer before a sink: small pieces gather there and are passed on together.
+
 ghost use base.Fml.{GName};
 ghost use Rattle.std.specs.Prelude.{◌≡◌, ◌≤◌, ◌<◌, ◌++◌, [], List, ℕ, length, take, IfOk, OnOk, OnErr, IsTrue, IsFalse};
 ghost use Rattle.wfs_ends.specs.Ends.{Shown, Gives, Grows, KeepsLeft, Rose, Writes, behind_buffer, given_more};

@@ -85,7 +85,7 @@ fn texts_lists_boxes_and_clocks_copy_as_they_are(rt: HostRuntime) -> Result<(), 
     let text = Text::of(alloc, "Straße")?;
     assert_eq!(rt; text.copy(alloc)?.as_str(), "Straße");
     assert_eq!(rt;
-        Text::of_string(String::from_str(alloc, "Mark")?).as_str(),
+        Text::of_string(String::from_str(alloc, "Mark")?)?.as_str(),
         "Mark"
     );
     let list = List::of(vec![in alloc; 3u8, 4]?);
