@@ -14,12 +14,12 @@ placed-on true within e = refl
 placed-on false true e = cc
 placed-on false false e = cc
 
-placed-within : (on within : Bool) → Within ≡ placed on within → (on ≡ false) × (within ≡ true)
+pub placed-within : (on within : Bool) → Within ≡ placed on within → (on ≡ false) × (within ≡ true)
 placed-within true within e = cc
 placed-within false true e = (refl, refl)
 placed-within false false e = cc
 
-placed-outside : (on within : Bool) → Outside ≡ placed on within → (on ≡ false) × (within ≡ false)
+pub placed-outside : (on within : Bool) → Outside ≡ placed on within → (on ≡ false) × (within ≡ false)
 placed-outside true within e = cc
 placed-outside false true e = cc
 placed-outside false false e = (refl, refl)

@@ -70,7 +70,7 @@ right_of p q r pq pr qp pr' =
     along : (z m n : ℤ) → z ≡ m -ℤ n → m ≤ℤ pos 0 → pos 0 <ℤ n → z ≤ℤ pos 0
     along z m n e h k = omega (arith, ints)
 
-abbrev xor : Bool → Bool → Bool
+abbrev pub xor : Bool → Bool → Bool
 xor true b = not b
 xor false b = b
 
@@ -104,27 +104,27 @@ crossed-left : (p q r : Point) → p.x <ℤ q.x → p.x <ℤ r.x → is_crossed 
 crossed-left p q r h k = crossed-shape p q r ∙ crossed_by (int_lt p.y q.y) (int_lt p.y r.y) (int_lt (pos 0) (sign q r p)) (int_lt (pos 0) (sign r q p))
     (λ a b. left_of p q r h k (above_test p.y q.y a) b) (λ a b. left_of p r q k h (above_test p.y r.y a) b)
 
-crossed-right : (p q r : Point) → q.x <ℤ p.x → r.x <ℤ p.x → is_crossed p (record { from = q; to = r }) ≡ false
+pub crossed-right : (p q r : Point) → q.x <ℤ p.x → r.x <ℤ p.x → is_crossed p (record { from = q; to = r }) ≡ false
 crossed-right p q r h k = crossed-shape p q r ∙ none_by (int_lt p.y q.y) (int_lt p.y r.y) (int_lt (pos 0) (sign q r p)) (int_lt (pos 0) (sign r q p))
     (λ a b. right_of p q r h k (above_test p.y q.y a) b) (λ a b. right_of p r q k h (above_test p.y r.y a) b)
 
-crossed-under : (p q r : Point) → p.y <ℤ q.y → p.y <ℤ r.y → is_crossed p (record { from = q; to = r }) ≡ false
+pub crossed-under : (p q r : Point) → p.y <ℤ q.y → p.y <ℤ r.y → is_crossed p (record { from = q; to = r }) ≡ false
 crossed-under p q r h k =
     let e : int_lt p.y q.y ≡ true = grind (arith, ints) in
     let f : int_lt p.y r.y ≡ true = grind (arith, ints) in
     crossed-shape p q r ∙ rw (e, f) refl
 
-crossed-over : (p q r : Point) → q.y <ℤ p.y → r.y <ℤ p.y → is_crossed p (record { from = q; to = r }) ≡ false
+pub crossed-over : (p q r : Point) → q.y <ℤ p.y → r.y <ℤ p.y → is_crossed p (record { from = q; to = r }) ≡ false
 crossed-over p q r h k =
     let e : int_lt p.y q.y ≡ false = grind (arith, ints) in
     let f : int_lt p.y r.y ≡ false = grind (arith, ints) in
     crossed-shape p q r ∙ rw (e, f) refl
 
-is_odd-suc : (n : ℕ) → is_odd (1 + n) ≡ not (is_odd n)
+pub is_odd-suc : (n : ℕ) → is_odd (1 + n) ≡ not (is_odd n)
 is_odd-suc n = grind (arith, nat_tests)
 
 -- A path all of whose edges are uncrossed.
-none-crossed : (p : Point) (P : Point → Type 0) → ((q r : Point) → P q → P r → is_crossed p (record { from = q; to = r }) ≡ false) →
+pub none-crossed : (p : Point) (P : Point → Type 0) → ((q r : Point) → P q → P r → is_crossed p (record { from = q; to = r }) ≡ false) →
     (q : Point) (qs : List Point) → P q → AllByRecursion P qs → count_by (is_crossed p) (edges_from q qs) ≡ 0
 none-crossed p P un q [] h a = refl
 none-crossed p P un q (r ∷ rs) h a =
@@ -154,7 +154,7 @@ odd-more true n = is_odd-suc n
 odd-more false n = ap is_odd (omega arith)
 
 -- From a point to lesser x of a path, the count is odd where exactly one of the path's ends is above it.
-parity-left : (p q : Point) (qs : List Point) → p.x <ℤ q.x → AllByRecursion (λ r. p.x <ℤ r.x) qs →
+pub parity-left : (p q : Point) (qs : List Point) → p.x <ℤ q.x → AllByRecursion (λ r. p.x <ℤ r.x) qs →
     is_odd (count_by (is_crossed p) (edges_from q qs)) ≡ xor (int_lt p.y q.y) (int_lt p.y (last_of q qs).y)
 parity-left p q [] h a = xor-same (int_lt p.y q.y)
 parity-left p q (r ∷ rs) h a =
@@ -171,7 +171,7 @@ closed-level q qs h =
     let e = both (int_eq q.x (last_of q qs).x) (int_eq q.y (last_of q qs).y) h in
     (signed_Decides q.y (last_of q qs).y).0 e.1
 
-each : (P Q : Point → Type 0) → ((q : Point) → P q → Q q) → (qs : List Point) → AllByRecursion P qs → AllByRecursion Q qs
+pub each : (P Q : Point → Type 0) → ((q : Point) → P q → Q q) → (qs : List Point) → AllByRecursion P qs → AllByRecursion Q qs
 each P Q f [] a = tt
 each P Q f (q ∷ qs) a = (f q a.0, each P Q f qs a.1)
 

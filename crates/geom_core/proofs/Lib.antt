@@ -9,4 +9,5 @@ pub mod Least
 pub mod Meeting
 pub mod Numbers
 pub mod Parts
+pub mod Passing
 pub mod Walks

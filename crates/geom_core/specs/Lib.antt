@@ -4,3 +4,4 @@ pub mod Rings
 pub mod Shapes
 pub mod Places
 pub mod Extents
+pub mod Blocks

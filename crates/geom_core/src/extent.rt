@@ -1,3 +1,4 @@
+//! Boxes with sides along the axes, and the least box of positions.
 ghost use Rattle.std.specs.Prelude.{◌≡◌, ◌<◌, length, fold};
 ghost use Rattle.geom_core.specs.Shapes.{box_of};
 ghost use Rattle.geom_core.specs.Plane.{box_at, grown, low_corner, high_corner, least_box, box_between, is_beyond, are_apart};

@@ -1,3 +1,4 @@
+//! Why a shape is not valid.
 /// Why a shape is not valid. Where several faults hold, the first in the order of
 /// `OutOfRange`, `TooMany`, `TooFew`, `NotClosed`, `Turned`, `HoleOutside` is named.
 #[derive(Clone, Copy, Debug, PartialEq, Eq)]

@@ -1,3 +1,4 @@
+//! The geometry of a feature, its bounds, and the positions that a polygon covers.
 ghost use Rattle.std.specs.Prelude.{◌≡◌, IfOk, IsTrue};
 ghost use Rattle.geom_core.specs.Rings.{is_in_area};
 ghost use Rattle.geom_core.specs.Extents.{IsLeastBox, positions_of, bounds_of, is_covered};
@@ -6,7 +7,7 @@ ghost use Rattle.geom_core.specs.Places.{place_in_holes, area_holds};
 
 use crate::placing::Place;
 use crate::{Box2, Line, Polygon, Pos, Ring};
-use std::alloc::{AllocError, Global};
+use wfs_ends::{Mem, Shared};
 
 /// A geometry of a feature (GML 3.2, OGC 07-036, section 10): a point, a line string or a polygon.
 #[derive(Debug, PartialEq, Eq, Drop)]
@@ -14,20 +15,20 @@ pub enum Geometry {
     /// A point.
     At(Pos),
     /// A line string.
-    Along(Line),
+    Along(Shared<Line>),
     /// A polygon.
-    Over(Polygon),
+    Over(Shared<Polygon>),
 }
 
 impl Geometry {
-    /// An equal geometry. `AllocError`: there is no memory for it.
-    pub fn copy(&self, alloc: Global) -> Result<Geometry, AllocError>
+    /// An equal geometry, which shares its positions.
+    pub fn copy(&self) -> Mem<Geometry>
         ensures { IfOk result (λ g. g ≡ self.now) }
     {
         match self {
             Geometry::At(p) => Ok(Geometry::At(*p)),
-            Geometry::Along(line) => Ok(Geometry::Along(line.copy(alloc)?)),
-            Geometry::Over(area) => Ok(Geometry::Over(area.copy(alloc)?)),
+            Geometry::Along(line) => Ok(Geometry::Along(line.copy()?)),
+            Geometry::Over(area) => Ok(Geometry::Over(area.copy()?)),
         }
     }
 }
@@ -41,8 +42,8 @@ pub fn bounds(g: &Geometry) -> Box2
 {
     match g {
         Geometry::At(p) => Box2::at(*p),
-        Geometry::Along(line) => line.bounds(),
-        Geometry::Over(area) => area.bounds(),
+        Geometry::Along(line) => line.item().bounds(),
+        Geometry::Over(area) => area.item().bounds(),
     }
 }
 

@@ -1,6 +1,7 @@
 //! Shapes on whole-number coordinates, and exact predicates on them.
 #![tactic(auto)]
 
+mod blocks;
 mod extent;
 mod fault;
 mod geometry;

@@ -1,11 +1,11 @@
-ghost use Rattle.std.specs.Prelude.{◌≡◌, slice_get, IfOk};
+//! Line strings.
+ghost use Rattle.std.specs.Prelude.{◌≡◌, slice_get};
 ghost use Rattle.geom_core.specs.Shapes.{line_of};
 ghost use Rattle.geom_core.specs.Plane.{least_box};
 ghost use Rattle.geom_core.specs.Extents.{IsLeastBox};
 
 use crate::path::Path;
 use crate::{Box2, GeomFault, MOST_POSITIONS, Pos};
-use std::alloc::{AllocError, Global};
 use std::marker::Model;
 
 /// A path of two to 10,000 positions, joined by straight segments.
@@ -63,15 +63,6 @@ impl Line {
         ensures least { IsLeastBox result self.now }
     {
         self.path.bounds()
-    }
-
-    /// An equal line. `AllocError`: there is no memory for it.
-    pub(crate) fn copy(&self, alloc: Global) -> Result<Line, AllocError>
-        ensures { IfOk result (λ l. l ≡ self.now) }
-    {
-        Ok(Line {
-            path: self.path.copy(alloc)?,
-        })
     }
 }
 

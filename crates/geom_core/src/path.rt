@@ -1,10 +1,10 @@
-ghost use Rattle.std.specs.Prelude.{◌≡◌, ◌<◌, length, slice_get, IfOk};
+//! Positions in order beside their least box, which lines and rings are made of.
+ghost use Rattle.std.specs.Prelude.{◌≡◌, ◌<◌, length, slice_get};
 ghost use Rattle.geom_core.specs.Plane.{least_box};
 ghost use Rattle.geom_core.specs.Extents.{IsLeastBox};
 
 use crate::extent::least_box;
 use crate::{Box2, Pos};
-use std::alloc::{AllocError, Global};
 use std::marker::Model;
 
 /// One or more positions in order, beside the least box that holds them: what a line and a ring
@@ -56,18 +56,6 @@ impl Path {
         ensures least { IsLeastBox result self.now }
     {
         self.bounds
-    }
-
-    /// An equal path. `AllocError`: there is no memory for it.
-    pub fn copy(&self, alloc: Global) -> Result<Path, AllocError>
-        ensures { IfOk result (λ p. p ≡ self.now) }
-    {
-        let mut positions = Vec::with_capacity(alloc, self.positions.len())?;
-        positions.extend_from_slice(self.positions.as_slice())?;
-        Ok(Path {
-            positions,
-            bounds: self.bounds,
-        })
     }
 }
 

@@ -1,3 +1,4 @@
+//! Where a position lies in a ring: the walk along all of its edges.
 ghost use Rattle.std.specs.Prelude.{◌≡◌, ◌<◌, length};
 ghost use Rattle.geom_core.specs.Rings.{edges_from};
 ghost use Rattle.geom_core.specs.Places.{place_of, place_among};

@@ -1,13 +1,15 @@
-ghost use Rattle.std.specs.Prelude.{◌≡◌, ◌+◌, ◌≤◌, length, sum_by, nat_lt, IfOk, IsTrue};
+//! Polygons: a shell and holes that lie within it, valid once made.
+ghost use Rattle.std.specs.Prelude.{◌≡◌, ◌+◌, ◌≤◌, length, sum_by, nat_lt, IsTrue};
 ghost use Rattle.std.specs.List.{list_all};
 ghost use Rattle.geom_core.specs.Shapes.{polygon_of, are_holes_within, is_hole_within};
 ghost use Rattle.geom_core.specs.Plane.{least_box, Point, IsInBox};
 ghost use Rattle.geom_core.specs.Extents.{IsLeastBox, positions_of_area};
 ghost use Rattle.geom_core.specs.Rings.{is_within, is_in_area};
+ghost use Rattle.geom_core.specs.Blocks.{AreBoxes};
 
-use crate::placing::{Place, place_in};
+use crate::blocks::MOST_BLOCKS;
+use crate::placing::Place;
 use crate::{Box2, GeomFault, MOST_POSITIONS, Pos, Ring};
-use std::alloc::{AllocError, Global};
 use std::marker::Model;
 
 /// What a shell encloses but for its holes: at most 10,000 positions in all, and each position
@@ -66,27 +68,6 @@ impl Polygon {
     {
         self.shell.bounds()
     }
-
-    /// An equal polygon. `AllocError`: there is no memory for it.
-    pub(crate) fn copy(&self, alloc: Global) -> Result<Polygon, AllocError>
-        ensures { IfOk result (λ a. a ≡ self.now) }
-    {
-        Ok(Polygon {
-            shell: self.shell.copy(alloc)?,
-            holes: copies_of(alloc, self.holes.as_slice())?,
-        })
-    }
-}
-
-/// These rings in memory of their own.
-fn copies_of(alloc: Global, rings: &[Ring]) -> Result<Vec<Ring>, AllocError>
-    ensures { IfOk result (λ v. v.items ≡ rings.now) }
-{
-    let mut copies = Vec::with_capacity(alloc, rings.len())?;
-    for ring in rings {
-        copies.push(ring.copy(alloc)?)?;
-    }
-    Ok(copies)
 }
 
 /// Whether a shell and holes have over 10,000 positions in all.
@@ -107,24 +88,44 @@ fn are_too_many(shell: &Ring, holes: &[Ring]) -> bool
 fn are_holes_within(shell: &Ring, holes: &[Ring]) -> bool
     ensures { result ≡ are_holes_within shell.now holes.now }
 {
-    holes
-        .iter()
-        .all(|hole| is_hole_within(shell, hole.positions()))
+    holes.is_empty() || are_all_within(shell, &shell.boxes(), holes)
+}
+
+/// Whether each position of each hole lies within the shell or on it, by the shell's boxes.
+#[tactic(auto, using(std::proofs::lemmas::List::Folds::list_all_more, std::proofs::lemmas::List::Folds::list_all_at))]
+fn are_all_within(shell: &Ring, boxes: &[Box2; MOST_BLOCKS], holes: &[Ring]) -> bool
+    requires { AreBoxes boxes.now shell.now }
+    ensures { result ≡ are_holes_within shell.now holes.now }
+{
+    for hole in holes {
+        if !is_hole_within(shell, boxes, hole.positions()) {
+            return false;
+        }
+    }
+    true
 }
 
 /// Whether each of these positions lies within the shell or on it.
-fn is_hole_within(shell: &Ring, hole: &[Pos]) -> bool
+#[tactic(auto, using(std::proofs::lemmas::List::Folds::list_all_more, std::proofs::lemmas::List::Folds::list_all_at))]
+fn is_hole_within(shell: &Ring, boxes: &[Box2; MOST_BLOCKS], hole: &[Pos]) -> bool
+    requires { AreBoxes boxes.now shell.now }
     ensures { result ≡ is_hole_within shell.now hole.now }
 {
-    hole.iter().all(|p| is_within(*p, shell))
+    for p in hole {
+        if !is_within(*p, shell, boxes) {
+            return false;
+        }
+    }
+    true
 }
 
 /// Whether a position lies within a ring or on it.
 #[tactic(auto, unfolding(crate::specs::Rings::is_within, crate::specs::Places::place_of))]
-fn is_within(p: Pos, ring: &Ring) -> bool
+fn is_within(p: Pos, ring: &Ring, boxes: &[Box2; MOST_BLOCKS]) -> bool
+    requires { AreBoxes boxes.now ring.now }
     ensures { result ≡ is_within p ring.now }
 {
-    match ring.place(p) {
+    match ring.place_by(p, boxes) {
         Place::On | Place::Within => true,
         Place::Outside => false,
     }

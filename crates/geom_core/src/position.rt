@@ -1,3 +1,4 @@
+//! Positions with bounded coordinates, and the limits of shapes.
 ghost use Rattle.std.specs.Prelude.{◌≡◌};
 ghost use Rattle.geom_core.specs.Shapes.{position_of, same_point};
 

@@ -1,14 +1,16 @@
-ghost use Rattle.std.specs.Prelude.{◌≡◌, ◌<◌, ◌≤◌, length, slice_get, IfOk, IsTrue};
+//! Closed rings.
+ghost use Rattle.std.specs.Prelude.{◌≡◌, ◌<◌, ◌≤◌, length, slice_get, IsTrue};
 ghost use Rattle.geom_core.specs.Shapes.{ring_of, is_closed};
 ghost use Rattle.geom_core.specs.Plane.{least_box};
 ghost use Rattle.geom_core.specs.Extents.{IsLeastBox};
 ghost use Rattle.geom_core.specs.Places.{place_of};
+ghost use Rattle.geom_core.specs.Blocks.{AreBoxes};
 
+use crate::blocks::{MOST_BLOCKS, boxes_of, place_by_boxes};
 use crate::path::Path;
 use crate::placing::{Place, place_in};
 use crate::position::is_same;
 use crate::{Box2, GeomFault, MOST_POSITIONS, Pos};
-use std::alloc::{AllocError, Global};
 use std::marker::Model;
 
 /// A closed path of four to 10,000 positions, the last of which is the first. It may cross itself.
@@ -72,6 +74,21 @@ impl Ring {
         place_in(p, self.path.positions())
     }
 
+    /// The least boxes of the blocks of its edges.
+    pub(crate) fn boxes(&self) -> [Box2; MOST_BLOCKS]
+        ensures { AreBoxes result self.now }
+    {
+        boxes_of(self.path.positions())
+    }
+
+    /// Where a position lies in the ring, by the boxes of its blocks.
+    pub(crate) fn place_by(&self, p: Pos, boxes: &[Box2; MOST_BLOCKS]) -> Place
+        requires { AreBoxes boxes.now self.now }
+        ensures { result ≡ place_of p self.now }
+    {
+        place_by_boxes(p, self.path.positions(), boxes)
+    }
+
     /// The first position.
     pub fn first(&self) -> Pos
         ensures { slice_get self.now 0 ≡ Some result }
@@ -87,15 +104,6 @@ impl Ring {
         ensures some { 0 < length self.now }
     {
         self.path.bounds()
-    }
-
-    /// An equal ring. `AllocError`: there is no memory for it.
-    pub(crate) fn copy(&self, alloc: Global) -> Result<Ring, AllocError>
-        ensures { IfOk result (λ r. r ≡ self.now) }
-    {
-        Ok(Ring {
-            path: self.path.copy(alloc)?,
-        })
     }
 }
 

@@ -1,3 +1,4 @@
+//! Exact predicates on positions and segments, by the sign of one cross product.
 ghost use Rattle.std.specs.Prelude.{◌≡◌, ◌-ℤ◌, ◌*ℤ◌, ◌≤◌, unsigned_abs, pos, int_lt};
 ghost use Rattle.std.specs.Ordering.{int_eq};
 ghost use Rattle.geom_core.specs.Segments.{sign, is_between, is_beside, is_on, are_opposite, do_cross, do_touch, do_meet};

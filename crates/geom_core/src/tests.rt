@@ -1,6 +1,8 @@
+//! Faults, signs and copies by rows whose answers were worked out by hand.
 use super::*;
 use std::alloc::{AllocError, Global};
 use std::test::Fail;
+use wfs_ends::Shared;
 
 const FAR: i64 = 1_000_000_000;
 
@@ -212,6 +214,7 @@ fn is_field(g: &Geometry) -> bool {
     };
     match g {
         Geometry::Over(area) => {
+            let area = area.item();
             let shell = area.shell().positions();
             let holes = area.holes();
             box_is_right
@@ -235,14 +238,18 @@ fn stands_at(positions: &[Pos], places: &[Place]) -> bool {
 fn copies_are_equal(rt: HostRuntime) -> Result<(), Fail> {
     let alloc = rt.alloc();
     if let (Ok(area), Ok(p)) = (polygon(alloc, &FIELD, &GAP, 1)?, at((7, 7))) {
-        let field = Geometry::Over(area);
-        let copy = field.copy(alloc)?;
+        let field = Geometry::Over(Shared::new(alloc, area)?);
+        if let Ok(whole) = polygon(alloc, &FIELD, &[], 1)? {
+            let whole = Geometry::Over(Shared::new(alloc, whole)?);
+            assert!(rt; whole != field && field != whole);
+        }
+        let copy = field.copy()?;
         assert!(rt; is_field(&field) && is_field(&copy) && copy == field);
         let point = Geometry::At(p);
-        assert!(rt; point.copy(alloc)? == point && point != field);
+        assert!(rt; point.copy()? == point && point != field);
         if let Ok(line) = Line::new(vec![in alloc; p; 2]?) {
-            let line = Geometry::Along(line);
-            assert!(rt; line.copy(alloc)? == line && line != point);
+            let line = Geometry::Along(Shared::new(alloc, line)?);
+            assert!(rt; line.copy()? == line && line != point);
         }
     } else {
         assert!(rt; false);

@@ -1,3 +1,4 @@
+//! Whether a segment meets a segment of a geometry, and whether any two of theirs meet.
 ghost use Rattle.std.specs.Prelude.{◌≡◌};
 ghost use Rattle.std.specs.List.{list_any};
 ghost use Rattle.geom_core.specs.Rings.{edges, edges_from};
@@ -15,8 +16,8 @@ pub fn meets_geometry(a: Pos, b: Pos, other: &Geometry) -> bool
     }
     match other {
         Geometry::At(p) => segments_meet(a, b, *p, *p),
-        Geometry::Along(line) => meets_path(a, b, line.positions()),
-        Geometry::Over(area) => meets_rings(a, b, area),
+        Geometry::Along(line) => meets_path(a, b, line.item().positions()),
+        Geometry::Over(area) => meets_rings(a, b, area.item()),
     }
 }
 
@@ -63,8 +64,8 @@ pub fn do_any_meet(a: &Geometry, b: &Geometry) -> bool
 {
     match a {
         Geometry::At(p) => meets_geometry(*p, *p, b),
-        Geometry::Along(line) => does_path_meet(line.positions(), b),
-        Geometry::Over(area) => do_rings_meet(area, b),
+        Geometry::Along(line) => does_path_meet(line.item().positions(), b),
+        Geometry::Over(area) => do_rings_meet(area.item(), b),
     }
 }
 

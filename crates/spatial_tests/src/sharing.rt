@@ -1,3 +1,4 @@
+//! Whether geometries share a position, and whether one shares a position with a box.
 ghost use Rattle.std.specs.Prelude.{◌≡◌, not, slice_get};
 ghost use Rattle.geom_core.specs.Extents.{is_covered, positions_of};
 ghost use Rattle.spatial_tests.specs.Sharing.{do_intersect, do_meet_box, covers_first, is_in_box, is_in_width, is_in_height, is_first, sides, segments_of, do_any_meet};
@@ -59,7 +60,7 @@ fn covers(g: &Geometry, p: Pos) -> bool
 {
     match g {
         Geometry::At(_) | Geometry::Along(_) => false,
-        Geometry::Over(area) => in_area(p, area),
+        Geometry::Over(area) => in_area(p, area.item()),
     }
 }
 
@@ -69,8 +70,8 @@ fn first(g: &Geometry) -> Pos
 {
     match g {
         Geometry::At(p) => *p,
-        Geometry::Along(line) => line.first(),
-        Geometry::Over(area) => area.shell().first(),
+        Geometry::Along(line) => line.item().first(),
+        Geometry::Over(area) => area.item().shell().first(),
     }
 }
 
