@@ -1,3 +1,5 @@
+//! Attributes that an element may not have.
+
 ghost use Rattle.std.specs.Prelude.{◌≡◌, map};
 ghost use Rattle.std.specs.Option.{option_copied};
 ghost use Rattle.doc_attributes.specs.Others.{is_other, lesser, first_other};

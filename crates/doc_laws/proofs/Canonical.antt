@@ -19,13 +19,14 @@ use Rattle.doc_tree.specs.declared.tree.Prefixes.{Prefixes}
 use Rattle.doc_tree.proofs.Trees.{leaf_is, full_is}
 use Rattle.doc_read.specs.declared.scope.Bound.{Bound}
 use Rattle.doc_read.specs.declared.lex.Class.TheVariants.{Space}
-use Rattle.doc_read.specs.Chars.{is_allowed, holds}
+use Rattle.doc_tree.specs.Characters.{is_allowed}
+use Rattle.doc_read.specs.Chars.{holds}
 use Rattle.doc_read.specs.Element.{Head, tree}
 use Rattle.doc_read.specs.Grammar.{spell, tag_end, Markup, leaf, whole, Content, last, piece, child, print, print_content, print_piece, content_text, meaning, children, count, counts, text_if, IsMarkup, IsContent, IsFew, IsUnmixed}
 use Rattle.doc_read.proofs.Fronts.{both, false_unless}
 use Rattle.doc_laws.specs.RoundTrip.{ArePrefixes, is_covered, covers}
 use Rattle.doc_laws.proofs.Encoding.{safe, IsSafe, all_both, all_join}
-use Rattle.doc_laws.proofs.Escapes.{plain_run, text_written, text_fits, text_childless, text_uncounted}
+use Rattle.doc_laws.proofs.Escapes.{plain_run, characters_written, text_written, text_fits, text_childless, text_uncounted}
 use Rattle.doc_laws.proofs.Facts.{AreAllowed, AllStand, Meant, content_meant, Facts, head_facts, not_zero}
 use Rattle.doc_laws.proofs.Prefixed.{scope_of, spelling_of, Known, known, spell_same, spell_safe}
 use Rattle.doc_laws.proofs.Heads.{outer, head_of, WroteHead, head_written}
@@ -149,7 +150,7 @@ full_bytes names is_root name xs kid kids stem body k same inside =
     let end : List ℕ = 60 ∷ 47 ∷ (spell (spelling_of names.pairs name) ++ 62 ∷ []) in
     let texts : List ℕ = flat_map (element_text names false) (kid ∷ kids) in
     full_tree names is_root name xs kid kids []
-    ∙ ap (λ (x : List ℕ). tag_text names is_root name xs ++ (x ++ (texts ++ (end_tag_text names name ++ [])))) (opened_is [] [] refl)
+    ∙ ap (λ (x : List ℕ). tag_text names is_root name xs ++ (x ++ (texts ++ (end_tag_text names name ++ [])))) (opened_is [] [] (characters_written false [] refl))
     ∙ ap (λ (x : List ℕ). tag_text names is_root name xs ++ (62 ∷ (texts ++ x))) (append-nil (end_tag_text names name) ∙ end_tag_is names name k)
     ∙ ap (λ (x : List ℕ). x ++ (62 ∷ (texts ++ end))) same
     ∙ ap (λ (x : List ℕ). (60 ∷ encode_utf8_all stem) ++ (62 ∷ (x ++ end))) inside
@@ -175,7 +176,7 @@ text_canon names is_root d name xs text vs n deep more few k w allowed is some =
       means = ap (λ (ks : List Element). tree name xs ks (text_if ks (content_text t.content))) childless ∙ ap (λ (x : List ℕ). tree name xs [] x) (t.means ∙ sym is);
       counted = omega arith;
       printed_safe = whole_safe w.stem (print_content t.content) (spell (spelling_of names.pairs name)) w.printed_safe t.printed_safe (spell_safe (spelling_of names.pairs name) k.is);
-      same = text_bytes names is_root name xs text w.stem (print_content t.content) some k w.same (ap (escaped false) is ∙ t.bytes)
+      same = text_bytes names is_root name xs text w.stem (print_content t.content) some k w.same (ap (escaped false) is ∙ characters_written false vs allowed ∙ t.bytes)
           ∙ frame w.stem (print_content t.content) (spell (spelling_of names.pairs name)) (spell_same (spelling_of names.pairs name) k.is);
     }
 

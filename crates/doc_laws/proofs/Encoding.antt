@@ -7,7 +7,8 @@ use Rattle.std.proofs.lemmas.Bool.Decides.{nat_tests}
 use Rattle.std.proofs.lemmas.Str.{encode_ascii}
 use Rattle.std.proofs.lemmas.List.Folds.{list_all-append}
 use Rattle.doc_read.specs.declared.lex.Class.TheVariants.{NamePart}
-use Rattle.doc_read.specs.Chars.{is_allowed, holds}
+use Rattle.doc_tree.specs.Characters.{is_allowed}
+use Rattle.doc_read.specs.Chars.{holds}
 use Rattle.doc_read.specs.Document.{line_piece, line_feeds}
 use Rattle.doc_read.specs.Grammar.{IsName}
 use Rattle.doc_read.proofs.Fronts.{both}

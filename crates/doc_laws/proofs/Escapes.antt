@@ -2,24 +2,34 @@
 use Rattle.std.proofs.Common.{◌≡◌, ℕ, suc, ◌<◌, ◌≤◌, ◌⊎◌, inl, inr, Bool, true, false, not, ◌&&◌, ◌||◌, cond, eqb, List, [], ◌∷◌, ◌++◌, length, get_or, map, refl, sym, ap, subst, ◌∙◌, append_assoc, arith}
 use Rattle.std.specs.Prelude.{encode_utf8, encode_utf8_all, codes, ◌==◌}
 use Rattle.std.specs.List.{list_all}
+use Rattle.std.specs.Str.{IsUtf8, chars}
 use Rattle.std.proofs.lemmas.Bool.{eqb-true}
 use Rattle.std.proofs.lemmas.Bool.Decides.{nat_tests}
 use Rattle.std.proofs.lemmas.Grind.{flat_map-append}
 use Rattle.std.proofs.lemmas.List.{append-nil}
 use Rattle.std.proofs.lemmas.List.Concat.{flat_map-cons}
-use Rattle.std.proofs.lemmas.Str.{encode_ascii, inside_one, encodes-append}
-use Rattle.doc_tree.specs.Escape.{escaped_byte, escaped}
+use Rattle.std.proofs.lemmas.Str.{encode_ascii, inside_one, encodes-append, chars-encodes}
+use Rattle.doc_tree.specs.Escape.{escaped_byte, escaped_bytes, escaped}
+use Rattle.doc_tree.proofs.Escapes.{allowed_escaped}
 use Rattle.doc_read.specs.declared.scope.Bound.{Bound}
 use Rattle.doc_read.specs.declared.lex.Class.TheVariants.{Text, Value}
 use Rattle.doc_read.specs.declared.word.Word.TheVariants as word
-use Rattle.doc_read.specs.Chars.{is_allowed, holds, is_read, letter_at, letters_at, contains}
+use Rattle.doc_tree.specs.Characters.{is_allowed}
+use Rattle.doc_read.specs.Chars.{holds, is_read, letter_at, letters_at, contains}
 use Rattle.doc_read.specs.Lex.{plain, named_reference, number}
 use Rattle.doc_read.specs.Grammar.{IsPiece, Reference, named, decimal, print_reference, IsReference, Written, ended, refers, print_written, written_text, IsWritten, Piece, reference, piece_text, Content, last, piece, child, print_content, content_text, children, counts, IsContent, IsRun}
 use Rattle.doc_read.proofs.Fronts.{both, false_unless}
 use Rattle.doc_read.proofs.Marks.{begins_cons}
-use Rattle.doc_laws.proofs.Encoding.{safe, IsSafe, all_join}
+use Rattle.doc_laws.proofs.Encoding.{safe, IsSafe, all_join, are_scalars}
 
 -- ---- bytes
+
+-- allowed characters are written byte for byte
+pub characters_written : (v : Bool) (vs : List ℕ) → list_all is_allowed vs ≡ true → escaped v (encode_utf8_all vs) ≡ escaped_bytes v (encode_utf8_all vs)
+characters_written v vs allowed =
+    let are = are_scalars vs allowed in
+    let utf8 : IsUtf8 (encode_utf8_all vs) = (vs, (are, refl)) in
+    allowed_escaped v (encode_utf8_all vs) utf8 (ap (list_all is_allowed) (chars-encodes vs are) ∙ allowed)
 
 not_this : (b n : ℕ) → (b ≡ n → ⊥) → eqb b n ≡ false
 not_this b n other = false_unless (eqb b n) (λ e. other (eqb-true b n e))
@@ -31,13 +41,13 @@ high_same true b high =
 high_same false b high =
     rw (not_this b 38 (λ e. absurd (omega arith)), not_this b 60 (λ e. absurd (omega arith)), not_this b 62 (λ e. absurd (omega arith)), not_this b 13 (λ e. absurd (omega arith))) refl
 
-all_same : (v : Bool) (xs : List ℕ) → ((k : ℕ) → k < length xs → escaped_byte v (get_or xs k 0) ≡ get_or xs k 0 ∷ []) → escaped v xs ≡ xs
+all_same : (v : Bool) (xs : List ℕ) → ((k : ℕ) → k < length xs → escaped_byte v (get_or xs k 0) ≡ get_or xs k 0 ∷ []) → escaped_bytes v xs ≡ xs
 all_same v [] h = refl
 all_same v (x ∷ xs) h =
-    flat_map-cons (escaped_byte v) x xs ∙ ap (λ (t : List ℕ). t ++ escaped v xs) (h 0 (omega arith))
+    flat_map-cons (escaped_byte v) x xs ∙ ap (λ (t : List ℕ). t ++ escaped_bytes v xs) (h 0 (omega arith))
     ∙ ap (λ (t : List ℕ). x ∷ t) (all_same v xs (λ k lt. h (suc k) (omega arith)))
 
-wide_same : (v : Bool) (c : ℕ) → 128 ≤ c → escaped v (encode_utf8 c) ≡ encode_utf8 c
+wide_same : (v : Bool) (c : ℕ) → 128 ≤ c → escaped_bytes v (encode_utf8 c) ≡ encode_utf8 c
 wide_same v c wide = all_same v (encode_utf8 c) (λ k lt. high_same v (get_or (encode_utf8 c) k 0) (high k lt))
   where
     low : (k : ℕ) → k < length (encode_utf8 c) → get_or (encode_utf8 c) k 0 < 128 → ⊥
@@ -120,7 +130,7 @@ either v c = outer (eqb c 38) (eqb c 60) (eqb c 62) (eqb c 13) refl refl refl re
     outer false false false false p q r s = inner v (eqb c 34) (eqb c 9) (eqb c 10) p q r s refl refl refl
 
 -- its bytes
-plain_char : (v : Bool) (c : ℕ) → IsPlain v c → escaped v (encode_utf8 c) ≡ encode_utf8 c
+plain_char : (v : Bool) (c : ℕ) → IsPlain v c → escaped_bytes v (encode_utf8 c) ≡ encode_utf8 c
 plain_char v c is = elim (split c) [
   | inl s ↦ rw (encode_ascii c s) (flat_map-cons (escaped_byte v) c [] ∙ rw is.bytes refl)
   | inr l ↦ wide_same v c l
@@ -129,7 +139,7 @@ plain_char v c is = elim (split c) [
     split : (n : ℕ) → (n < 128) ⊎ (128 ≤ n)
     split n = grind arith
 
-marked_char : (v : Bool) (c : ℕ) (is : IsMarked v c) → escaped v (encode_utf8 c) ≡ 38 ∷ (print_reference is.refers_by ++ 59 ∷ [])
+marked_char : (v : Bool) (c : ℕ) (is : IsMarked v c) → escaped_bytes v (encode_utf8 c) ≡ 38 ∷ (print_reference is.refers_by ++ 59 ∷ [])
 marked_char v c is =
     let small = is.small in
     rw (encode_ascii c small) (flat_map-cons (escaped_byte v) c [] ∙ append-nil (escaped_byte v c) ∙ is.bytes)
@@ -139,13 +149,13 @@ marked_encodes : (v : Bool) (c : ℕ) (is : IsMarked v c) (rest : List ℕ) → 
 unfolding lib.Utf8.encode
 marked_encodes v c is rest = ap (λ (x : List ℕ). 38 ∷ x) (encodes-append (print_reference is.refers_by) (59 ∷ rest) ∙ ap (λ (x : List ℕ). x ++ 59 ∷ encode_utf8_all rest) is.same)
 
-plain_then : (v : Bool) (c : ℕ) (cs : List ℕ) → IsPlain v c → escaped v (encode_utf8_all (c ∷ cs)) ≡ encode_utf8 c ++ escaped v (encode_utf8_all cs)
-plain_then v c cs is = flat_map-append (escaped_byte v) (encode_utf8 c) (encode_utf8_all cs) ∙ ap (λ (x : List ℕ). x ++ escaped v (encode_utf8_all cs)) (plain_char v c is)
+plain_then : (v : Bool) (c : ℕ) (cs : List ℕ) → IsPlain v c → escaped_bytes v (encode_utf8_all (c ∷ cs)) ≡ encode_utf8 c ++ escaped_bytes v (encode_utf8_all cs)
+plain_then v c cs is = flat_map-append (escaped_byte v) (encode_utf8 c) (encode_utf8_all cs) ∙ ap (λ (x : List ℕ). x ++ escaped_bytes v (encode_utf8_all cs)) (plain_char v c is)
 
-marked_then : (v : Bool) (c : ℕ) (cs : List ℕ) (is : IsMarked v c) → escaped v (encode_utf8_all (c ∷ cs)) ≡ 38 ∷ (print_reference is.refers_by ++ 59 ∷ escaped v (encode_utf8_all cs))
+marked_then : (v : Bool) (c : ℕ) (cs : List ℕ) (is : IsMarked v c) → escaped_bytes v (encode_utf8_all (c ∷ cs)) ≡ 38 ∷ (print_reference is.refers_by ++ 59 ∷ escaped_bytes v (encode_utf8_all cs))
 marked_then v c cs is =
-    flat_map-append (escaped_byte v) (encode_utf8 c) (encode_utf8_all cs) ∙ ap (λ (x : List ℕ). x ++ escaped v (encode_utf8_all cs)) (marked_char v c is)
-    ∙ ap (λ (x : List ℕ). 38 ∷ x) (append_assoc (print_reference is.refers_by) (59 ∷ []) (escaped v (encode_utf8_all cs)))
+    flat_map-append (escaped_byte v) (encode_utf8 c) (encode_utf8_all cs) ∙ ap (λ (x : List ℕ). x ++ escaped_bytes v (encode_utf8_all cs)) (marked_char v c is)
+    ∙ ap (λ (x : List ℕ). 38 ∷ x) (append_assoc (print_reference is.refers_by) (59 ∷ []) (escaped_bytes v (encode_utf8_all cs)))
 
 plain_safe : (v : Bool) (c : ℕ) → IsPlain v c → is_allowed c ≡ true → safe c ≡ true
 plain_safe v c is allowed = rw (allowed, is.no_return) refl
@@ -157,7 +167,7 @@ pub record WroteValue (vs : List ℕ) : Type 0 where
   pub fits : IsWritten 34 written
   pub means : written_text written ≡ encode_utf8_all vs
   pub printed_safe : IsSafe (print_written written)
-  pub bytes : escaped true (encode_utf8_all vs) ≡ encode_utf8_all (print_written written)
+  pub bytes : escaped_bytes true (encode_utf8_all vs) ≡ encode_utf8_all (print_written written)
 
 abbrev push : ℕ → Written → Written
 push c (ended run) = ended (c ∷ run)
@@ -277,7 +287,7 @@ pub record WroteText (vs : List ℕ) : Type 0 where
   pub texts : IsTexts content
   pub means : content_text content ≡ encode_utf8_all vs
   pub printed_safe : IsSafe (print_content content)
-  pub bytes : escaped false (encode_utf8_all vs) ≡ encode_utf8_all (print_content content)
+  pub bytes : escaped_bytes false (encode_utf8_all vs) ≡ encode_utf8_all (print_content content)
 
 pub text_fits : (vs : List ℕ) (t : WroteText vs) (d : ℕ) (scope : List Bound) → IsContent t.content d scope
 text_fits vs t d scope = texts_fit t.content d scope t.texts

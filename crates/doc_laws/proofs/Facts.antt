@@ -15,7 +15,7 @@ use Rattle.doc_tree.specs.declared.tree.Attribute.{Attribute}
 use Rattle.doc_read.specs.declared.fault.DocFault.{DocFault}
 use Rattle.doc_read.specs.declared.fault.DocFault.TheVariants.{Malformed}
 use Rattle.doc_read.specs.declared.scope.Bound.{Bound}
-use Rattle.doc_read.specs.Chars.{is_allowed}
+use Rattle.doc_tree.specs.Characters.{is_allowed}
 use Rattle.doc_read.specs.Lex.{Spelling, Raw, plain, named_reference}
 use Rattle.doc_read.specs.Scope.{has_twins, expanded_names, newer, newest, space_of, is_default, is_declaration, is_xml, declaration_of, unbinds, declared_step, named, or_none, element_name, attribute_space, as_attribute, attribute_of, attributes_in}
 use Rattle.doc_read.specs.Element.{Head}

@@ -18,7 +18,7 @@ use Rattle.doc_read.specs.Element.{Head}
 use Rattle.doc_read.specs.Grammar.{IsName, IsSpelling, spell, print_written, SpellsRaw, SpellsRaws, SpellsTag, SpellsHead, tag_end}
 use Rattle.doc_laws.specs.RoundTrip.{IsPair, ArePairs, ArePrefixes, is_covered}
 use Rattle.doc_laws.proofs.Encoding.{safe, IsSafe, all_join}
-use Rattle.doc_laws.proofs.Escapes.{value_written}
+use Rattle.doc_laws.proofs.Escapes.{value_written, characters_written}
 use Rattle.doc_laws.proofs.Facts.{Meant, AreGood}
 use Rattle.doc_laws.proofs.Prefixed.{Pairs, bound_of, scope_of, spelling_of, Known, known, spell_same, spell_safe}
 use Rattle.doc_laws.proofs.Declared.{raw_of, raw_of_pair, AreKnown, all_known, attributes_back, none_unknown, declare_nothing, pairs_attributes, pairs_known, pairs_declare, attributes_apart, declaration_spelled, all_apart}
@@ -45,7 +45,7 @@ raw_written : (r : Raw) → IsSpelling r.name → Meant r.value → WroteRaw r
 raw_written r is meant =
     let w = value_written meant.characters meant.allowed in
     let text : List ℕ = spell r.name ++ 61 ∷ 34 ∷ (print_written w.written ++ 34 ∷ []) in
-    let value : escaped true r.value ≡ encode_utf8_all (print_written w.written) = ap (escaped true) meant.is ∙ w.bytes in
+    let value : escaped true r.value ≡ encode_utf8_all (print_written w.written) = ap (escaped true) meant.is ∙ characters_written true meant.characters meant.allowed ∙ w.bytes in
     record {
       text = text;
       spells = record {

@@ -8,7 +8,7 @@ use Rattle.std.proofs.lemmas.Str.{chars-encodes}
 use Rattle.doc_tree.specs.Tree.{document_text}
 use Rattle.doc_tree.specs.declared.tree.Element.{Element}
 use Rattle.doc_tree.specs.declared.tree.Prefixes.{Prefixes}
-use Rattle.doc_read.specs.Chars.{is_allowed}
+use Rattle.doc_tree.specs.Characters.{is_allowed}
 use Rattle.doc_read.specs.Scope.{xml_scope}
 use Rattle.doc_read.specs.Document.{line_feeds, unmarked}
 use Rattle.doc_read.specs.Grammar.{meaning, print, count, spaces, print_misc, SpellsText, Spells}

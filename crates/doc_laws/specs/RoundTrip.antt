@@ -7,7 +7,7 @@ use Rattle.doc_tree.specs.declared.tree.Element.{Element}
 use Rattle.doc_tree.specs.declared.tree.Element.TheFolds.{fold-Element}
 use Rattle.doc_tree.specs.declared.tree.Prefixes.{Prefixes}
 use Rattle.doc_tree.specs.Tree.{prefix_of}
-use Rattle.doc_read.specs.Chars.{is_allowed}
+use Rattle.doc_tree.specs.Characters.{is_allowed}
 use Rattle.doc_read.specs.Scope.{has_twins, is_none}
 use Rattle.doc_read.specs.Grammar.{IsName}
 

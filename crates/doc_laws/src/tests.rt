@@ -1,3 +1,5 @@
+//! Documents written and read again, each beside its canonical text.
+
 use doc_read::read_document;
 use doc_tree::{Prefixes, put_element};
 use std::alloc::Global;

@@ -1,20 +1,17 @@
 -- What the bytes of a text say of its characters.
 use Rattle.std.proofs.Common.{◌≡◌, ℕ, suc, ◌+◌, ◌/◌, ◌%◌, ◌<◌, ◌≤◌, Bool, true, false, cond, ◌||◌, eqb, ltb, List, [], ◌∷◌, map, refl, sym, ap, subst, ◌∙◌, arith, inl, inr}
-use lib.Utf8.{scalar, scalars, scalar_cases}
 use Rattle.std.specs.Prelude.{◌==◌, codes, encode_utf8_all}
 use Rattle.std.specs.Char.{encode_utf8, to_ascii_lowercase}
-use Rattle.std.specs.List.{list_all, list_any}
+use Rattle.std.specs.List.{list_any}
 use Rattle.std.specs.Str.{IsUtf8, IsAscii, chars, bytes_eq}
-use Rattle.std.proofs.lemmas.Str.{encode_ascii, encodes-chars, scalars-chars, encodes-IsAscii, chars-IsAscii}
+use Rattle.std.proofs.lemmas.Str.{encode_ascii, encodes-chars, encodes-IsAscii, chars-IsAscii}
 use Rattle.std.proofs.lemmas.Str.Ascii.{IsAscii-nil, IsAscii-cons, lowercase_is}
-use Rattle.std.proofs.lemmas.List.Folds.{list_any-append, list_all-append}
+use Rattle.std.proofs.lemmas.List.Folds.{list_any-append}
 use Rattle.std.proofs.lemmas.Bool.{cases_lt, eqb-true}
 use Rattle.std.proofs.lemmas.Bool.Decides.{same_from_decides, Decides-like, nat_tests}
 use Rattle.std.proofs.lemmas.Slice.Eq.{bytes_eq-Decides}
 use Rattle.doc_read.specs.declared.word.Word.TheVariants.{SectionEnd}
-use Rattle.doc_read.specs.Chars.{is_allowed, begins, contains}
-use Rattle.doc_read.specs.Rest.{is_plain}
-use Rattle.doc_read.proofs.Fronts.{both}
+use Rattle.doc_read.specs.Chars.{begins, contains}
 use Rattle.doc_read.proofs.Words.{contains_end, contains_later}
 use Rattle.doc_read.proofs.Marks.{neither, begins_cons}
 
@@ -55,39 +52,6 @@ no_section_end (c ∷ cs) none =
     let p = neither (c == 93) (list_any (λ d. d == 93) cs) none in
     let here : begins SectionEnd (c ∷ cs) ≡ false = begins_cons 93 (93 ∷ 62 ∷ []) c cs ∙ rw p.0 refl in
     contains_later SectionEnd c (c ∷ cs) cs refl here ∙ no_section_end cs p.1
-
--- ---- plain bytes
-
--- of what is encoded in more bytes, two are not allowed, and have the byte 0xef
-encode_high : (c : ℕ) (x y : Bool) → 128 ≤ c → scalar c ≡ true → eqb c 0xfffe ≡ x → eqb c 0xffff ≡ y → list_all is_plain (encode_utf8 c) ≡ true → is_allowed c ≡ true
-unfolding encode_utf8
-encode_high c true y le is e f plain = absurd (cc (ap (λ k. list_all is_plain (encode_utf8 k)) (sym (eqb-true c 0xfffe e)) ∙ plain))
-encode_high c false true le is e f plain = absurd (cc (ap (λ k. list_all is_plain (encode_utf8 k)) (sym (eqb-true c 0xffff f)) ∙ plain))
-encode_high c false false le is e f plain =
-    elim (scalar_cases c is) [
-      | inl lt ↦ grind (arith, nat_tests)
-      | inr between ↦ let low = between.0 in let high = between.1 in grind (arith, nat_tests)
-    ]
-
-low_plain : (c : ℕ) → c < 128 → is_plain c ≡ true → is_allowed c ≡ true
-low_plain c lt plain = grind (arith, nat_tests)
-
-encode_plain : (c : ℕ) → scalar c ≡ true → list_all is_plain (encode_utf8 c) ≡ true → is_allowed c ≡ true
-encode_plain c is plain =
-    elim (cases_lt c 128) [
-      | inl lt ↦ low_plain c lt (both (is_plain c) true (ap (list_all is_plain) (sym (encode_ascii c lt)) ∙ plain)).0
-      | inr le ↦ encode_high c (eqb c 0xfffe) (eqb c 0xffff) le is refl refl plain
-    ]
-
-plain_all : (cs : List ℕ) → scalars cs ≡ true → list_all is_plain (encode_utf8_all cs) ≡ true → list_all is_allowed cs ≡ true
-plain_all [] are plain = refl
-plain_all (c ∷ cs) are plain =
-    let p = both (scalar c) (scalars cs) are in
-    let q = both (list_all is_plain (encode_utf8 c)) (list_all is_plain (encode_utf8_all cs)) (sym (list_all-append is_plain (encode_utf8 c) (encode_utf8_all cs)) ∙ plain) in
-    rw (encode_plain c p.0 q.0) (plain_all cs p.1 q.1)
-
-pub plain_bytes : (bs : List ℕ) → IsUtf8 bs → list_all is_plain bs ≡ true → list_all is_allowed (chars bs) ≡ true
-plain_bytes bs text plain = plain_all (chars bs) (scalars-chars bs text) (ap (list_all is_plain) (encodes-chars bs text) ∙ plain)
 
 -- ---- small letters
 

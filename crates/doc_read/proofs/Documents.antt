@@ -15,7 +15,8 @@ use Rattle.doc_read.specs.declared.fault.DocFault.TheVariants.{NotText, Malforme
 use Rattle.doc_read.specs.declared.lex.Class.TheVariants.{Space, NameStart}
 use Rattle.doc_read.specs.declared.word.Word.TheVariants as word
 use Rattle.doc_read.specs.Read.{Gives}
-use Rattle.doc_read.specs.Chars.{is_allowed, holds, starts, skip_space, expected_at, begins, contains}
+use Rattle.doc_tree.specs.Characters.{is_allowed}
+use Rattle.doc_read.specs.Chars.{holds, starts, skip_space, expected_at, begins, contains}
 use Rattle.doc_read.specs.Scope.{xml_scope}
 use Rattle.doc_read.specs.Declaration.{declaration_at}
 use Rattle.doc_read.specs.Element.{remark_at, element_at}

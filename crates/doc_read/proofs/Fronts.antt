@@ -2,6 +2,7 @@
 use Rattle.std.proofs.Common.{◌≡◌, ℕ, suc, ◌+◌, Bool, true, false, ◌&&◌, List, [], ◌∷◌, ◌++◌, length, take, refl, sym, ap, ◌∙◌, arith}
 use Rattle.std.specs.List.{prefix_len, list_all}
 use Rattle.std.proofs.lemmas.List.{append_cancel_right, take-append-drop, take_at, drop_at}
+pub use Rattle.doc_tree.proofs.Escapes.{both}
 use Rattle.doc_read.specs.declared.lex.Class.{Class}
 use Rattle.doc_read.specs.Chars.{holds, split_front, starts}
 
@@ -30,10 +31,6 @@ split_front_is class cs front rest whole is =
 pub false_unless : (b : Bool) → (b ≡ true → ⊥) → b ≡ false
 false_unless true h = absurd (h refl)
 false_unless false h = refl
-
-pub both : (a b : Bool) → (a && b) ≡ true → (a ≡ true) × (b ≡ true)
-both true b h = (refl, h)
-both false b h = absurd cc
 
 prefix_len_again : (class : Class) (a b : List ℕ) → list_all (holds class) a ≡ true → starts class b ≡ false → prefix_len (holds class) (a ++ b) ≡ length a
 prefix_len_again class [] [] all stops = refl

@@ -3,7 +3,7 @@ use Rattle.std.proofs.Common.{le-mul_of_pos_right, ◌≡◌, ℕ, ◌+◌, ◌*
 use Rattle.std.specs.Prelude.{min}
 use Rattle.std.proofs.lemmas.Bool.{cases_lt}
 use Rattle.std.proofs.lemmas.Bool.Decides.{nat_tests}
-use Rattle.doc_read.specs.Chars.{is_allowed}
+use Rattle.doc_tree.specs.Characters.{is_allowed}
 use Rattle.doc_read.specs.Lex.{digit, number}
 
 -- a number that is no character stays one

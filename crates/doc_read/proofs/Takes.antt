@@ -14,7 +14,8 @@ use Rattle.doc_read.specs.declared.fault.DocFault.TheVariants.{Malformed, Prefix
 use Rattle.doc_read.specs.declared.lex.Class.{Class}
 use Rattle.doc_read.specs.declared.lex.Class.TheVariants.{Space, NameStart, NamePart, Value, Decimal, Hexadecimal}
 use Rattle.doc_read.specs.declared.word.Word.TheVariants as word
-use Rattle.doc_read.specs.Chars.{is_allowed, holds, starts, split_front, skip_space, expected_at, letters, word_at, begins, contains, split_word}
+use Rattle.doc_tree.specs.Characters.{is_allowed}
+use Rattle.doc_read.specs.Chars.{holds, starts, split_front, skip_space, expected_at, letters, word_at, begins, contains, split_word}
 use Rattle.doc_read.specs.Lex.{Spelling, Raw, Tag, Part, part, plain, name_at, local_at, spelled_at, named_reference, name_reference_at, number, number_reference_at, numbered_at, reference_at, value_turn, inside_value, value_at, raw_attribute_at, attributes_at, tag_at, tag_end_at, slash_at}
 use Rattle.doc_read.specs.declared.scope.Bound.{Bound}
 use Rattle.doc_read.specs.Scope.{has_twins, spellings, expanded_names, same_spelling, declared_at, attributes_in, has_unknown, element_name}

@@ -1,5 +1,5 @@
 -- Sets of characters, and words.
-use Rattle.std.specs.Prelude.{ℕ, Bool, true, false, [], ◌∷◌, ◌++◌, ◌&&◌, ◌||◌, not, List, take, drop, Result, Ok, Err, ◌==◌, nat_le, if◌then◌else◌, codes}
+use Rattle.std.specs.Prelude.{ℕ, Bool, true, false, [], ◌∷◌, ◌++◌, ◌&&◌, ◌||◌, not, List, take, drop, Result, Ok, Err, ◌==◌, if◌then◌else◌, codes}
 use Rattle.std.specs.List.{prefix_len}
 use Rattle.std.specs.Char.{is_ascii_alphabetic, is_ascii_alphanumeric, is_ascii_digit, is_ascii_hexdigit}
 use Rattle.wfs_ends.specs.Read.{◌>>=◌}
@@ -10,10 +10,6 @@ use Rattle.doc_read.specs.declared.lex.Class.TheVariants.{Space, NameStart, Name
 use Rattle.doc_read.specs.declared.word.Word.{Word}
 use Rattle.doc_read.specs.declared.word.Word.TheVariants.{Dashes, CommentEnd, Section, SectionEnd, Doctype, Declaration, Version, Encoding, Standalone, DeclarationEnd}
 use Rattle.doc_read.specs.Read.{Reads}
-
--- the characters of a document (XML 1.0, 2.2)
-abbrev pub is_allowed : ℕ → Bool
-is_allowed c = c == 9 || c == 10 || c == 13 || (nat_le 32 c && nat_le c 0xd7ff) || (nat_le 0xe000 c && nat_le c 0xfffd) || (nat_le 0x10000 c && nat_le c 0x10ffff)
 
 abbrev pub holds : Class → ℕ → Bool
 holds Space c = c == 32 || c == 9 || c == 10

@@ -6,7 +6,8 @@ use Rattle.wfs_ends.specs.Read.{◌>>=◌, until}
 use Rattle.doc_tree.specs.declared.tree.Element.{Element}
 use Rattle.doc_read.specs.declared.fault.DocFault.{DocFault}
 use Rattle.doc_read.specs.declared.fault.DocFault.TheVariants.{NotText, Malformed}
-use Rattle.doc_read.specs.Chars.{is_allowed, expected_at, skip_space}
+use Rattle.doc_tree.specs.Characters.{is_allowed}
+use Rattle.doc_read.specs.Chars.{expected_at, skip_space}
 use Rattle.doc_read.specs.Declaration.{declaration_at}
 use Rattle.doc_read.specs.Scope.{xml_scope}
 use Rattle.doc_read.specs.Element.{remark_at, element_at}

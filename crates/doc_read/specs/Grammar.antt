@@ -9,7 +9,8 @@ use Rattle.doc_read.specs.declared.lex.Class.{Class}
 use Rattle.doc_read.specs.declared.lex.Class.TheVariants.{Space, NameStart, NamePart, Text, Value, Quoted, Decimal, Hexadecimal}
 use Rattle.doc_read.specs.declared.word.Word.{Word}
 use Rattle.doc_read.specs.declared.word.Word.TheVariants as word
-use Rattle.doc_read.specs.Chars.{is_allowed, holds, starts, letters, contains}
+use Rattle.doc_tree.specs.Characters.{is_allowed}
+use Rattle.doc_read.specs.Chars.{holds, starts, letters, contains}
 use Rattle.doc_read.specs.Lex.{Spelling, Raw, Tag, named_reference, number, plain}
 use Rattle.doc_read.specs.declared.scope.Bound.{Bound}
 use Rattle.doc_read.specs.Scope.{xml_scope, has_twins, spellings, expanded_names, declared_at, element_name, attributes_in, has_unknown}

@@ -10,7 +10,8 @@ use Rattle.doc_read.specs.declared.lex.Spelled as code
 use Rattle.doc_read.specs.declared.tag.RawAttribute as code_raw
 use Rattle.doc_read.specs.declared.tag.Tag as code_tag
 use Rattle.doc_read.specs.Read.{Reads}
-use Rattle.doc_read.specs.Chars.{is_allowed, holds, split_front, starts, skip_space, expected_at}
+use Rattle.doc_tree.specs.Characters.{is_allowed}
+use Rattle.doc_read.specs.Chars.{holds, split_front, starts, skip_space, expected_at}
 
 -- ---- names
 

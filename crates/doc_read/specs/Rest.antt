@@ -1,5 +1,5 @@
 -- What is left of a text, some of which was read.
-use Rattle.std.specs.Prelude.{◌≡◌, ◌++◌, ◌∷◌, ◌<◌, ◌&&◌, ◌||◌, ◌==◌, not, nat_le, ℕ, Bool, true, false, length, List, Option, Some, None, encode_utf8}
+use Rattle.std.specs.Prelude.{◌≡◌, ◌++◌, ◌∷◌, ◌<◌, ℕ, true, false, length, List, Option, Some, None, encode_utf8}
 use Rattle.std.specs.Str.{chars}
 use Rattle.std.specs.Borrow.{Bor}
 use Rattle.doc_read.specs.declared.lex.Class.{Class}
@@ -12,7 +12,3 @@ IsRest whole rest = (front : List ℕ) × (whole ≡ front ++ rest)
 abbrev pub Skips : Class → Option (Bor (List ℕ)) → List ℕ → Type 0
 Skips class None text = starts class (chars text) ≡ false
 Skips class (Some rest) text = (c : ℕ) × (holds class c ≡ true) × (chars text ≡ c ∷ chars rest.now) × (length rest.now < length text) × (text ≡ encode_utf8 c ++ rest.now)
-
--- Bytes of allowed characters alone: what is not allowed is a control character, or begins with 0xef.
-abbrev pub is_plain : ℕ → Bool
-is_plain b = (nat_le 32 b && not (b == 0xef)) || b == 9 || b == 10 || b == 13

@@ -1,11 +1,8 @@
 //! Whole documents.
 
 ghost use Rattle.std.specs.Prelude.{◌≡◌, ◌++◌, false, List, ℕ, Ok, OnOk, IfOk, string_bytes, encode_utf8_all};
-ghost use Rattle.std.specs.List.{list_all};
 ghost use Rattle.std.specs.Str.{chars};
 ghost use Rattle.doc_read.specs.Read.{Gives, GivesBy};
-ghost use Rattle.doc_read.specs.Chars.{is_allowed};
-ghost use Rattle.doc_read.specs.Rest.{is_plain};
 ghost use Rattle.doc_read.specs.Scope.{xml_scope};
 ghost use Rattle.doc_read.specs.Document.{line_piece, line_feeds, unmarked, misc_turn, misc_at, tree_at, document};
 ghost use Rattle.doc_read.specs.Grammar.{Spells};
@@ -16,10 +13,11 @@ use crate::fault::DocFault;
 use crate::front::{first, has, is_empty};
 use crate::inside::remark_at;
 use crate::level::Level;
-use crate::lex::{expected_at, is_allowed, skip_space};
+use crate::lex::{expected_at, skip_space};
 use crate::scope::xml_bound;
+use crate::texts::Texts;
 use crate::tree::element;
-use doc_tree::Element;
+use doc_tree::{Element, all_allowed};
 use std::alloc::{AllocError, Global};
 use wfs_ends::Mem;
 
@@ -102,7 +100,8 @@ fn tree_at(alloc: Global, cs: &str) -> Result<Element, DocFault>
     let rest = expected_at('<', rest)?;
     let mut scope = Vec::new(alloc);
     scope.push(xml_level(alloc)?)?;
-    let (root, _, rest) = element(alloc, MAX_DEPTH, &mut scope, 0, rest)?;
+    let mut texts = Texts::new(alloc)?;
+    let (root, _, rest) = element(alloc, &mut texts, MAX_DEPTH, &mut scope, 0, rest)?;
     let rest = misc_at(rest)?;
     if !is_empty(rest) {
         return Err(DocFault::Malformed);
@@ -118,47 +117,6 @@ fn unmarked(cs: &str) -> &str
         Some(('\u{feff}', rest)) => rest,
         _ => cs,
     }
-}
-
-/// A character that is not allowed has a byte that is not plain.
-fn is_plain(byte: u8) -> bool
-    ensures { result ≡ is_plain byte }
-{
-    (byte >= b' ' && byte != 0xef) || byte == b'\t' || byte == b'\n' || byte == b'\r'
-}
-
-/// Whether all bytes are plain. No byte ends the loop, so that many are compared at once.
-#[tactic(auto, using(std::proofs::lemmas::List::Folds::list_all_more))]
-fn all_plain(bytes: &[u8]) -> bool
-    ensures { result ≡ list_all is_plain bytes.now }
-{
-    let mut are_plain = true;
-    for byte in bytes {
-        are_plain &= is_plain(*byte);
-    }
-    are_plain
-}
-
-fn each_allowed(cs: &str) -> bool
-    ensures { result ≡ list_all is_allowed (chars cs.now) }
-{
-    let mut rest = cs;
-    while let Some((c, after)) = first(rest) {
-        if !is_allowed(c) {
-            return false;
-        }
-        rest = after;
-    }
-    true
-}
-
-fn all_allowed(cs: &str) -> bool
-    ensures { result ≡ list_all is_allowed (chars cs.now) }
-{
-    if all_plain(cs.as_bytes()) {
-        return true;
-    }
-    each_allowed(cs)
 }
 
 /// The tree of allowed characters.

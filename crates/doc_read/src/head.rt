@@ -12,6 +12,7 @@ use crate::lex::Spelled;
 use crate::names::{attributes_in, element_name, has_unknown};
 use crate::scope::declared_at;
 use crate::tag::tag_at;
+use crate::texts::Texts;
 use crate::twins::{have_one_name, have_one_spelling};
 use doc_tree::{Attribute, QName};
 use std::alloc::Global;
@@ -29,26 +30,27 @@ pub struct Head<'a> {
 #[tactic(auto, unfolding(crate::specs::Element::head_at, wfs_ends::specs::Read::unless))]
 pub fn head_at<'a>(
     alloc: Global,
+    texts: &mut Texts,
     scope: &mut Vec<Level>,
     cs: &'a str,
 ) -> Result<(Head<'a>, &'a str), DocFault>
     ensures reads { GivesBy (λ x. (head_of (bounds_of scope.new.items) x.0, chars x.1.now)) result (head_at (bounds_of scope.old.items) (chars cs.now)) }
     ensures outer { OnOk result (take (vec_len scope.old) scope.new.items ≡ scope.old.items) }
 {
-    let (tag, rest) = tag_at(alloc, cs)?;
+    let (tag, rest) = tag_at(alloc, texts, cs)?;
     if have_one_spelling(alloc, &tag.attributes)? {
         return Err(DocFault::Malformed);
     }
     let own = declared_at(alloc, &tag.attributes)?;
     scope.push(Level::new(alloc, own)?)?;
-    let attributes = attributes_in(alloc, scope, &tag.attributes)?;
+    let attributes = attributes_in(alloc, texts, scope, &tag.attributes)?;
     if have_one_name(alloc, &attributes)? {
         return Err(DocFault::Malformed);
     }
     if has_unknown(scope, &tag.attributes) {
         return Err(DocFault::Prefix);
     }
-    let name = element_name(alloc, scope, &tag.name)?;
+    let name = element_name(alloc, texts, scope, &tag.name)?;
     Ok((
         Head {
             spelling: tag.name,

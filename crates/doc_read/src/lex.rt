@@ -4,7 +4,7 @@ ghost use Rattle.std.specs.Prelude.{◌≡◌, []};
 ghost use Rattle.std.specs.Str.{chars};
 ghost use Rattle.doc_read.specs.Read.{GivesBy};
 ghost use Rattle.doc_read.specs.Rest.{IsRest, Skips};
-ghost use Rattle.doc_read.specs.Chars.{is_allowed, holds, split_front, starts, skip_space, expected_at};
+ghost use Rattle.doc_read.specs.Chars.{holds, split_front, starts, skip_space, expected_at};
 ghost use Rattle.doc_read.specs.Lex.{name_at, spelled_at, spelled};
 
 use crate::fault::DocFault;
@@ -42,13 +42,6 @@ impl Class {
             Class::Hexadecimal => c.is_ascii_hexdigit(),
         }
     }
-}
-
-/// Whether the character may stand in a document.
-pub fn is_allowed(c: char) -> bool
-    ensures { result ≡ is_allowed c }
-{
-    matches!(c, '\t' | '\n' | '\r' | ' '..='\u{d7ff}' | '\u{e000}'..='\u{fffd}' | '\u{10000}'..='\u{10ffff}')
 }
 
 /// What comes after the first character, where that is of the class.

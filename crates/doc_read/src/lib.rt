@@ -13,6 +13,7 @@ mod names;
 mod reference;
 mod scope;
 mod tag;
+mod texts;
 mod tree;
 mod twins;
 mod value;

@@ -12,8 +12,9 @@ use crate::fault::DocFault;
 use crate::front::is_empty;
 use crate::level::Level;
 use crate::lex::Spelled;
-use crate::scope::{is_declaration, text_of};
+use crate::scope::is_declaration;
 use crate::tag::RawAttribute;
+use crate::texts::Texts;
 use doc_tree::{Attribute, QName};
 use std::alloc::Global;
 use wfs_ends::{Mem, Text};
@@ -46,25 +47,31 @@ fn space_of<'s>(scope: &'s [Level], prefix: &str) -> Option<&'s Text>
     newest(scope, prefix)
 }
 
-fn qname(alloc: Global, space: Text, local: &str) -> Mem<QName>
+fn qname(alloc: Global, texts: &mut Texts, space: Text, local: &str) -> Mem<QName>
     ensures { IfOk result (λ n. n ≡ record { space = space; local = encode_utf8_all (chars local.now) }) }
 {
     Ok(QName {
         space,
-        local: text_of(alloc, local)?,
+        local: texts.name(alloc, local)?,
     })
 }
 
 /// The default space applies to elements only, and needs no declaration.
 #[tactic(auto, unfolding(crate::specs::Scope::element_name))]
-pub fn element_name(alloc: Global, scope: &[Level], s: &Spelled<'_>) -> Result<QName, DocFault>
+pub fn element_name(
+    alloc: Global,
+    texts: &mut Texts,
+    scope: &[Level],
+    s: &Spelled<'_>,
+) -> Result<QName, DocFault>
     ensures { Gives result (element_name (bounds_of scope.now) (spelled s.now)) }
 {
     match space_of(scope, s.prefix) {
-        Some(space) => Ok(qname(alloc, space.copy(alloc)?, s.local)?),
+        Some(space) => Ok(qname(alloc, texts, space.copy(alloc)?, s.local)?),
         None => {
             if is_empty(s.prefix) {
-                Ok(qname(alloc, Text::of(alloc, "")?, s.local)?)
+                let none = texts.of(alloc, "")?;
+                Ok(qname(alloc, texts, none, s.local)?)
             } else {
                 Err(DocFault::Prefix)
             }
@@ -72,11 +79,16 @@ pub fn element_name(alloc: Global, scope: &[Level], s: &Spelled<'_>) -> Result<Q
     }
 }
 
-fn attribute(alloc: Global, space: Text, raw: &RawAttribute<'_>) -> Mem<Attribute>
+fn attribute(
+    alloc: Global,
+    texts: &mut Texts,
+    space: Text,
+    raw: &RawAttribute<'_>,
+) -> Mem<Attribute>
     ensures { IfOk result (λ a. a ≡ record { name = record { space = space; local = encode_utf8_all (chars raw.now.name.local.now) }; value = raw.now.value }) }
 {
     Ok(Attribute {
-        name: qname(alloc, space, raw.name.local)?,
+        name: qname(alloc, texts, space, raw.name.local)?,
         value: raw.value.copy(alloc)?,
     })
 }
@@ -84,6 +96,7 @@ fn attribute(alloc: Global, space: Text, raw: &RawAttribute<'_>) -> Mem<Attribut
 #[tactic(auto, unfolding(crate::specs::Scope::attribute_of))]
 fn add_attribute(
     alloc: Global,
+    texts: &mut Texts,
     scope: &[Level],
     found: &mut Vec<Attribute>,
     raw: &RawAttribute<'_>,
@@ -94,12 +107,13 @@ fn add_attribute(
         return Ok(());
     }
     if is_empty(raw.name.prefix) {
-        found.push(attribute(alloc, Text::of(alloc, "")?, raw)?)?;
+        let none = texts.of(alloc, "")?;
+        found.push(attribute(alloc, texts, none, raw)?)?;
         return Ok(());
     }
     match space_of(scope, raw.name.prefix) {
         Some(space) => {
-            found.push(attribute(alloc, space.copy(alloc)?, raw)?)?;
+            found.push(attribute(alloc, texts, space.copy(alloc)?, raw)?)?;
             Ok(())
         }
         None => Ok(()),
@@ -110,6 +124,7 @@ fn add_attribute(
 #[tactic(auto, using(crate::proofs::Scopes::attributes_turn, crate::proofs::Scopes::attributes_end, std::proofs::Common::append_assoc))]
 pub fn attributes_in(
     alloc: Global,
+    texts: &mut Texts,
     scope: &[Level],
     raws: &[RawAttribute<'_>],
 ) -> Mem<Vec<Attribute>>
@@ -117,7 +132,7 @@ pub fn attributes_in(
 {
     let mut found = Vec::with_capacity(alloc, raws.len())?;
     for raw in raws {
-        add_attribute(alloc, scope, &mut found, raw)?;
+        add_attribute(alloc, texts, scope, &mut found, raw)?;
     }
     Ok(found)
 }

@@ -3,12 +3,13 @@
 ghost use Rattle.std.specs.Prelude.{◌≡◌, ◌≤◌, ◌<◌, Some, None, if◌then◌else◌, min};
 ghost use Rattle.std.specs.Str.{chars};
 ghost use Rattle.doc_read.specs.Read.{Gives, GivesBy};
-ghost use Rattle.doc_read.specs.Chars.{is_allowed};
+ghost use Rattle.doc_tree.specs.Characters.{is_allowed};
 ghost use Rattle.doc_read.specs.Lex.{named_reference, name_reference_at, digit, number, number_reference_at, numbered_at, reference_at};
 
 use crate::fault::DocFault;
 use crate::front::{first, same};
-use crate::lex::{Class, expected_at, is_allowed, name_at, split_front, starts};
+use crate::lex::{Class, expected_at, name_at, split_front, starts};
+use doc_tree::is_allowed;
 
 #[tactic(auto, using(crate::proofs::Rests::word_chars), unfolding(crate::specs::Lex::named_reference))]
 fn named_reference(name: &str) -> Result<char, DocFault>

@@ -1,3 +1,5 @@
+//! Documents, and the trees or faults that XML 1.0 and Namespaces in XML 1.0 give, written by hand from these.
+
 use super::*;
 use doc_tree::{Attribute, Element, QName};
 use std::alloc::Global;
@@ -86,7 +88,7 @@ fn is_read_as(alloc: Global, bytes: &[u8], wanted: &str) -> bool {
 }
 
 /// Documents, and the tree or the fault that the rules give.
-static DOCUMENTS: [(&str, &str); 136] = [
+static DOCUMENTS: [(&str, &str); 160] = [
     // The byte order mark and the declaration.
     ("\u{feff}<a/>", "a"),
     ("\u{feff}<?xml version='1.0'?><a/>", "a"),
@@ -143,6 +145,19 @@ static DOCUMENTS: [(&str, &str); 136] = [
     ("< a/>", "Malformed"),
     ("<9a/>", "Malformed"),
     ("<-a/>", "Malformed"),
+    (
+        "<_ABCDEFGHIJKLMNOPQRSTUVWXYZ.abcdefghijklmnopqrstuvwxyz-0123456789/>",
+        "_ABCDEFGHIJKLMNOPQRSTUVWXYZ.abcdefghijklmnopqrstuvwxyz-0123456789",
+    ),
+    ("<A Z='1' a='2' z='3' _='4'/>", "A[Z=1][a=2][z=3][_=4]"),
+    ("<a@/>", "Malformed"),
+    ("<a[/>", "Malformed"),
+    ("<a^/>", "Malformed"),
+    ("<a`/>", "Malformed"),
+    ("<a{/>", "Malformed"),
+    ("<a,/>", "Malformed"),
+    ("<a;/>", "Malformed"),
+    ("<.a/>", "Malformed"),
     ("<\u{e9}/>", "Malformed"),
     ("<a\u{e9}/>", "Malformed"),
     ("<a:/>", "Malformed"),
@@ -190,6 +205,14 @@ static DOCUMENTS: [(&str, &str); 136] = [
     ("<a>&#13;&#10;</a>", "a\"\r\n\""),
     ("<a>&#0;</a>", "Malformed"),
     ("<a>&#xFFFE;</a>", "Malformed"),
+    ("<a>&#xFFFF;</a>", "Malformed"),
+    ("<a>&#31;</a>", "Malformed"),
+    ("<a>&#11;</a>", "Malformed"),
+    ("<a>&#xDFFF;</a>", "Malformed"),
+    (
+        "<a>&#xD7FF;&#xE000;&#xFFFD;&#x10000;</a>",
+        "a\"\u{d7ff}\u{e000}\u{fffd}\u{10000}\"",
+    ),
     ("<a>&#xD800;</a>", "Malformed"),
     ("<a>&#x110000;</a>", "Malformed"),
     ("<a>&#x10FFFF;&#000065;</a>", "a\"\u{10ffff}A\""),
@@ -255,7 +278,16 @@ static DOCUMENTS: [(&str, &str); 136] = [
     ("<a></b><!DOCTYPE c>", "Malformed"),
     // The characters are judged before all else.
     ("<a>\u{fffe}", "NotText"),
+    ("<a>\u{ffff}", "NotText"),
     ("<a></b>\u{1}", "NotText"),
+    ("<a>\0</a>", "NotText"),
+    ("<a>\u{8}</a>", "NotText"),
+    ("<a>\u{b}</a>", "NotText"),
+    ("<a>\u{c}</a>", "NotText"),
+    ("<a>\u{e}</a>", "NotText"),
+    ("<a>\u{1f}</a>", "NotText"),
+    ("<a b='\u{1f}'/>", "NotText"),
+    ("<a>\u{d7ff}\u{10ffff}</a>", "a\"\u{d7ff}\u{10ffff}\""),
     (
         "<a>\u{fffd}\u{e000}\u{10000}\u{7f}</a>",
         "a\"\u{fffd}\u{e000}\u{10000}\u{7f}\"",

@@ -12,10 +12,10 @@ use crate::head::head_at;
 use crate::inside::{Inside, closed_at, made, marked_at, run_at, tree};
 use crate::level::Level;
 use crate::reference::reference_at;
+use crate::texts::Texts;
 use crate::value::add_characters;
 use doc_tree::Element;
 use std::alloc::Global;
-use wfs_ends::Text;
 
 const MAX_ELEMENTS: u32 = 100_000;
 
@@ -39,6 +39,7 @@ fn admit(seen: u32, attributes: usize) -> Result<(), DocFault>
 #[tactic(auto, using(crate::proofs::Levels::element_deep, crate::proofs::Levels::element_level), unfolding(crate::specs::Element::level_at))]
 pub fn element<'a>(
     alloc: Global,
+    texts: &mut Texts,
     depth: u32,
     scope: &mut Vec<Level>,
     seen: u32,
@@ -48,22 +49,22 @@ pub fn element<'a>(
     ensures scope { OnOk result (scope.new.items ≡ scope.old.items) }
 {
     let outer = scope.len();
-    let (head, rest) = head_at(alloc, scope, cs)?;
+    let (head, rest) = head_at(alloc, texts, scope, cs)?;
     if depth == 0 {
         return Err(DocFault::TooDeep);
     }
     admit(seen, head.attributes.len())?;
     if head.is_empty {
         scope.truncate(outer);
-        let text = Text::of(alloc, "")?;
+        let text = texts.of(alloc, "")?;
         let element = tree(head.name, head.attributes, Vec::new(alloc), text);
         return Ok((element, seen + 1, rest));
     }
-    let inside = content(alloc, depth - 1, scope, seen + 1, rest)?;
+    let inside = content(alloc, texts, depth - 1, scope, seen + 1, rest)?;
     scope.truncate(outer);
     let rest = closed_at(&head.spelling, inside.rest)?;
     let seen = inside.seen;
-    let element = made(alloc, head, inside.children, inside.text)?;
+    let element = made(alloc, texts, head, inside.children, inside.text)?;
     Ok((element, seen, rest))
 }
 
@@ -72,6 +73,7 @@ pub fn element<'a>(
 #[tactic(auto, using(wfs_ends::proofs::Turns::until_turn, wfs_ends::proofs::Turns::until_end, crate::proofs::Enough::content_enough), unfolding(crate::specs::Element::content_at))]
 fn content<'a>(
     alloc: Global,
+    texts: &mut Texts,
     depth: u32,
     scope: &mut Vec<Level>,
     seen: u32,
@@ -87,7 +89,7 @@ fn content<'a>(
         rest: cs,
     };
     for _ in 0..cs.len() {
-        let (is_end, next) = turn(alloc, depth, scope, inside)?;
+        let (is_end, next) = turn(alloc, texts, depth, scope, inside)?;
         if is_end {
             return Ok(next);
         }
@@ -101,6 +103,7 @@ fn content<'a>(
 #[tactic(auto, using(std::proofs::lemmas::List::map_push), unfolding(crate::specs::Element::turn_at))]
 fn turn<'a>(
     alloc: Global,
+    texts: &mut Texts,
     depth: u32,
     scope: &mut Vec<Level>,
     inside: Inside<'a>,
@@ -141,7 +144,7 @@ fn turn<'a>(
                 ))
             }
             Some(_) => {
-                let (child, seen, rest) = element(alloc, depth, scope, seen, after)?;
+                let (child, seen, rest) = element(alloc, texts, depth, scope, seen, after)?;
                 children.push(child)?;
                 Ok((
                     false,

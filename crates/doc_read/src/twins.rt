@@ -26,7 +26,7 @@ fn written(alloc: Global, s: &Spelled<'_>) -> Mem<Text>
     add_characters(&mut text, s.prefix)?;
     text.push(':')?;
     add_characters(&mut text, s.local)?;
-    Ok(Text::of_string(text))
+    Text::of_string(text)
 }
 
 #[tactic(auto, using(crate::proofs::Repeats::spellings_turn, crate::proofs::Repeats::spellings_end, std::proofs::Common::append_assoc))]
@@ -47,7 +47,7 @@ fn expanded(alloc: Global, name: &QName) -> Mem<Text>
     text.push_str(name.local.as_str())?;
     text.push(' ')?;
     text.push_str(name.space.as_str())?;
-    Ok(Text::of_string(text))
+    Text::of_string(text)
 }
 
 #[tactic(auto, using(crate::proofs::Repeats::expanded_turn, crate::proofs::Repeats::expanded_end, std::proofs::Common::append_assoc))]

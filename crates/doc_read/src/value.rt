@@ -9,6 +9,7 @@ use crate::fault::DocFault;
 use crate::front::first;
 use crate::lex::{Class, split_front};
 use crate::reference::reference_at;
+use crate::texts::Texts;
 use std::alloc::{AllocError, Global};
 use wfs_ends::Text;
 
@@ -77,13 +78,17 @@ fn inside_value(alloc: Global, quote: char, cs: &str) -> Result<(String, &str), 
 }
 
 #[tactic(auto, unfolding(crate::specs::Lex::value_at))]
-pub fn value_at(alloc: Global, cs: &str) -> Result<(Text, &str), DocFault>
+pub fn value_at<'a>(
+    alloc: Global,
+    texts: &mut Texts,
+    cs: &'a str,
+) -> Result<(Text, &'a str), DocFault>
     ensures { GivesBy (λ x. (x.0, chars x.1.now)) result (value_at (chars cs.now)) }
 {
     match first(cs) {
         Some((quote @ ('"' | '\''), after)) => {
             let (text, rest) = inside_value(alloc, quote, after)?;
-            Ok((Text::of_string(text), rest))
+            Ok((texts.of_string(alloc, text)?, rest))
         }
         _ => Err(DocFault::Malformed),
     }

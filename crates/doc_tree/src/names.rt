@@ -1,3 +1,5 @@
+//! Prefixes of namespaces.
+
 ghost use Rattle.std.specs.Prelude.{◌≡◌};
 ghost use Rattle.std.specs.Option.{option_copied};
 ghost use Rattle.doc_tree.specs.Tree.{prefix_of};

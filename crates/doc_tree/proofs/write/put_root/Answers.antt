@@ -1,4 +1,3 @@
-use Rattle.std.proofs.Common.{sym}
 use Rattle.wfs_ends.proofs.Writing.{wrote_nothing}
 use Rattle.doc_tree.proofs.write.put_root.Goals as goal
 

@@ -1,7 +1,7 @@
 use Rattle.std.proofs.Common.{◌≡◌, take}
 use Rattle.std.specs.List.{list_all}
-use Rattle.doc_read.specs.Rest.{is_plain}
-use Rattle.doc_read.proofs.document.all_plain.Given as goal
+use Rattle.doc_tree.specs.Characters.{is_plain}
+use Rattle.doc_tree.proofs.characters.all_plain.Given as goal
 
 abbrev pub invariant-loop-byte : goal.invariant-loop-byte
 invariant-loop-byte l = l.are_plain ≡ list_all is_plain (take l.byte-index l.bytes)
