@@ -1,18 +1,23 @@
 -- The canonical text of a geometry's element, by pieces.
 use Rattle.std.proofs.Common.{◌≡◌, ℕ, zero, suc, ◌<◌, Bool, true, false, List, [], ◌∷◌, ◌++◌, length, map, refl, sym, ap, ◌∙◌, length-append, append_assoc, arith}
 use Rattle.std.specs.Prelude.{ℤ, pos, negsuc, codes, decimal, ◌==◌, ◌/◌, ◌%◌, ◌||◌, ◌&&◌, nat_le, if◌then◌else◌}
-use Rattle.std.specs.List.{flat_map}
+use Rattle.std.specs.List.{flat_map, list_all}
+use Rattle.std.specs.Str.{IsAscii, IsUtf8}
 use Rattle.std.specs.Fmt.{digit_glyph, digits, digits_onto, signed_decimal}
 use Rattle.std.proofs.lemmas.List.{append-nil}
 use Rattle.std.proofs.lemmas.List.Concat.{flat_map-cons}
-use Rattle.std.proofs.lemmas.Grind.{flat_map-append}
+use Rattle.std.proofs.lemmas.List.Folds.{list_all-append}
+use Rattle.std.proofs.lemmas.Str.{IsUtf8-from_ascii}
+use Rattle.std.proofs.lemmas.Str.Ascii.{IsAscii-nil, IsAscii-cons}
 use Rattle.std.proofs.lemmas.Bool.Decides.{nat_tests}
 use Rattle.wfs_ends.specs.Ends.{joined}
-use Rattle.doc_tree.specs.Escape.{escaped, escaped_byte}
+use Rattle.doc_tree.specs.Characters.{is_plain}
+use Rattle.doc_tree.specs.Escape.{escaped, escaped_byte, escaped_bytes}
 use Rattle.doc_tree.specs.Tree.{prefixed, name_text, attribute_text, tag_text, end_tag_text, opened_text, leaf_text, element_text}
 use Rattle.doc_tree.specs.declared.tree.Attribute.{Attribute}
 use Rattle.doc_tree.specs.declared.tree.Element.{Element}
 use Rattle.doc_tree.specs.declared.tree.Prefixes.{Prefixes}
+use Rattle.doc_tree.proofs.Escapes.{both, plain_bytes, allowed_escaped, escaped_append}
 use Rattle.doc_tree.proofs.Trees.{leaf_is, full_is}
 use Rattle.geom_core.specs.Plane.{Point, Area}
 use Rattle.geom_core.specs.declared.geometry.Geometry.TheVariants.{At, Along, Over}
@@ -22,6 +27,7 @@ use Rattle.gml_docs.proofs.Reading.{has_name, has_children, has_text, has_attrib
 
 -- ---- numbers need no escape
 
+-- a text that is written byte for byte
 abbrev Plain : Bool → List ℕ → Type 0
 Plain v bs = escaped v bs ≡ bs
 
@@ -29,58 +35,90 @@ Plain v bs = escaped v bs ≡ bs
 abbrev is_mild : ℕ → Bool
 is_mild b = (b == 45) || (b == 32) || (b == 46) || (nat_le 48 b && nat_le b 57)
 
+abbrev AreMild : List ℕ → Type 0
+AreMild bs = list_all is_mild bs ≡ true
+
 mild_byte : (v : Bool) (b : ℕ) → is_mild b ≡ true → escaped_byte v b ≡ b ∷ []
 unfolding escaped_byte
 mild_byte v b h = grind (arith, nat_tests, h)
 
-mild_cons : (v : Bool) (b : ℕ) (bs : List ℕ) → is_mild b ≡ true → Plain v bs → Plain v (b ∷ bs)
-mild_cons v b bs h rest = flat_map-cons (escaped_byte v) b bs ∙ rw (mild_byte v b h, rest) refl
+mild_low : (b : ℕ) → is_mild b ≡ true → b < 128
+mild_low b h = grind (arith, nat_tests, h)
 
-mild_append : (v : Bool) (a b : List ℕ) → Plain v a → Plain v b → Plain v (a ++ b)
-mild_append v a b p q = flat_map-append (escaped_byte v) a b ∙ rw (p, q) refl
+mild_plain : (b : ℕ) → is_mild b ≡ true → is_plain b ≡ true
+mild_plain b h = grind (arith, nat_tests, h)
+
+mild_ascii : (bs : List ℕ) → AreMild bs → IsAscii bs
+mild_ascii [] h = IsAscii-nil
+mild_ascii (b ∷ bs) h = let k = both (is_mild b) (list_all is_mild bs) h in IsAscii-cons b bs (mild_low b k.0) (mild_ascii bs k.1)
+
+all_plain : (bs : List ℕ) → AreMild bs → list_all is_plain bs ≡ true
+all_plain [] h = refl
+all_plain (b ∷ bs) h = let k = both (is_mild b) (list_all is_mild bs) h in rw (mild_plain b k.0) (all_plain bs k.1)
+
+all_bytes : (v : Bool) (bs : List ℕ) → AreMild bs → escaped_bytes v bs ≡ bs
+all_bytes v [] h = refl
+all_bytes v (b ∷ bs) h =
+    let k = both (is_mild b) (list_all is_mild bs) h in
+    flat_map-cons (escaped_byte v) b bs ∙ rw (mild_byte v b k.0, all_bytes v bs k.1) refl
+
+mild_utf8 : (bs : List ℕ) → AreMild bs → IsUtf8 bs
+mild_utf8 bs h = IsUtf8-from_ascii bs (mild_ascii bs h)
+
+-- mild bytes are characters of their own, which every document may hold
+all_mild : (v : Bool) (bs : List ℕ) → AreMild bs → Plain v bs
+all_mild v bs h =
+    let text = mild_utf8 bs h in
+    allowed_escaped v bs text (plain_bytes bs text (all_plain bs h)) ∙ all_bytes v bs h
+
+mild_cons : (b : ℕ) (bs : List ℕ) → is_mild b ≡ true → AreMild bs → AreMild (b ∷ bs)
+mild_cons b bs h rest = rw (h, rest) refl
+
+mild_append : (a b : List ℕ) → AreMild a → AreMild b → AreMild (a ++ b)
+mild_append a b p q = list_all-append is_mild a b ∙ rw (p, q) refl
 
 glyph : (d : ℕ) → d < 10 → is_mild (digit_glyph false d) ≡ true
 glyph d lt = grind (arith, nat_tests)
 
-digits_mild : (v : Bool) (k n : ℕ) (acc : List ℕ) → Plain v acc → Plain v (digits_onto k 10 false n acc)
-digits_mild v zero n acc h = h
-digits_mild v (suc k) n acc h =
-    let one = mild_cons v (digit_glyph false (n % 10)) acc (glyph (n % 10) (omega arith)) h in
-    by (n / 10 == 0) one (digits_mild v k (n / 10) (digit_glyph false (n % 10) ∷ acc) one)
+digits_mild : (k n : ℕ) (acc : List ℕ) → AreMild acc → AreMild (digits_onto k 10 false n acc)
+digits_mild zero n acc h = h
+digits_mild (suc k) n acc h =
+    let one = mild_cons (digit_glyph false (n % 10)) acc (glyph (n % 10) (omega arith)) h in
+    by (n / 10 == 0) one (digits_mild k (n / 10) (digit_glyph false (n % 10) ∷ acc) one)
   where
-    by : (t : Bool) → Plain v (digit_glyph false (n % 10) ∷ acc) → Plain v (digits_onto k 10 false (n / 10) (digit_glyph false (n % 10) ∷ acc))
-        → Plain v (if t then digit_glyph false (n % 10) ∷ acc else digits_onto k 10 false (n / 10) (digit_glyph false (n % 10) ∷ acc))
+    by : (t : Bool) → AreMild (digit_glyph false (n % 10) ∷ acc) → AreMild (digits_onto k 10 false (n / 10) (digit_glyph false (n % 10) ∷ acc))
+        → AreMild (if t then digit_glyph false (n % 10) ∷ acc else digits_onto k 10 false (n / 10) (digit_glyph false (n % 10) ∷ acc))
     by true one more = one
     by false one more = more
 
-decimal_mild : (v : Bool) (n : ℕ) → Plain v (decimal n)
+decimal_mild : (n : ℕ) → AreMild (decimal n)
 unfolding digits
-decimal_mild v n = digits_mild v 64 n [] refl
+decimal_mild n = digits_mild 64 n [] refl
 
-number_mild : (v : Bool) (z : ℤ) → Plain v (signed_decimal z)
-number_mild v (pos n) = decimal_mild v n
-number_mild v (negsuc n) = mild_cons v 45 (decimal (suc n)) refl (decimal_mild v (suc n))
+number_mild : (z : ℤ) → AreMild (signed_decimal z)
+number_mild (pos n) = decimal_mild n
+number_mild (negsuc n) = mild_cons 45 (decimal (suc n)) refl (decimal_mild (suc n))
 
 -- ---- so positions need none
 
-position_mild : (v : Bool) (p : Point) → Plain v (position_text p)
+position_mild : (p : Point) → AreMild (position_text p)
 unfolding position_text joined
-position_mild v p =
-    mild_append v (signed_decimal p.x) (32 ∷ (signed_decimal p.y ++ [])) (number_mild v p.x)
-    (mild_cons v 32 (signed_decimal p.y ++ []) refl (mild_append v (signed_decimal p.y) [] (number_mild v p.y) refl))
+position_mild p =
+    mild_append (signed_decimal p.x) (32 ∷ (signed_decimal p.y ++ [])) (number_mild p.x)
+    (mild_cons 32 (signed_decimal p.y ++ []) refl (mild_append (signed_decimal p.y) [] (number_mild p.y) refl))
 
-next_mild : (v : Bool) (p : Point) → Plain v (next_text p)
+next_mild : (p : Point) → AreMild (next_text p)
 unfolding next_text
-next_mild v p = mild_cons v 32 (position_text p) refl (position_mild v p)
+next_mild p = mild_cons 32 (position_text p) refl (position_mild p)
 
-rest_mild : (v : Bool) (ps : List Point) → Plain v (flat_map next_text ps)
-rest_mild v [] = refl
-rest_mild v (p ∷ ps) = rw (flat_map-cons next_text p ps) (mild_append v (next_text p) (flat_map next_text ps) (next_mild v p) (rest_mild v ps))
+rest_mild : (ps : List Point) → AreMild (flat_map next_text ps)
+rest_mild [] = refl
+rest_mild (p ∷ ps) = rw (flat_map-cons next_text p ps) (mild_append (next_text p) (flat_map next_text ps) (next_mild p) (rest_mild ps))
 
-positions_mild : (v : Bool) (ps : List Point) → Plain v (positions_text ps)
+positions_mild : (ps : List Point) → AreMild (positions_text ps)
 unfolding positions_text
-positions_mild v [] = refl
-positions_mild v (p ∷ ps) = mild_append v (position_text p) (flat_map next_text ps) (position_mild v p) (rest_mild v ps)
+positions_mild [] = refl
+positions_mild (p ∷ ps) = mild_append (position_text p) (flat_map next_text ps) (position_mild p) (rest_mild ps)
 
 position_some : (p : Point) → (length (position_text p) == 0) ≡ false
 unfolding position_text joined
@@ -90,18 +128,22 @@ positions_some : (p : Point) (ps : List Point) → (length (positions_text (p �
 unfolding positions_text position_text joined
 positions_some p ps = grind (arith, nat_tests, length-append)
 
+-- mild bytes in front are written as they are
+mild_front : (a b : List ℕ) → AreMild a → escaped true (a ++ b) ≡ a ++ escaped true b
+mild_front a b h = escaped_append true a b (mild_utf8 a h) ∙ rw (all_mild true a h) refl
+
 dot : (bs : List ℕ) → escaped true (46 ∷ bs) ≡ 46 ∷ escaped true bs
-dot bs = flat_map-cons (escaped_byte true) 46 bs ∙ rw (mild_byte true 46 refl) refl
+dot bs = mild_front (46 ∷ []) bs refl
 
 -- an identifier needs it in its names alone
-pub id_escaped : (kind : List ℕ) (number : ℕ) (property : List ℕ) → escaped true (id_text kind number property)
+pub id_escaped : (kind : List ℕ) (number : ℕ) (property : List ℕ) → IsUtf8 kind → escaped true (id_text kind number property)
     ≡ joined (escaped true kind ∷ codes "." ∷ decimal number ∷ codes "." ∷ escaped true property ∷ [])
 unfolding id_text joined
-id_escaped kind number property =
-    flat_map-append (escaped_byte true) kind (46 ∷ (decimal number ++ 46 ∷ (property ++ [])))
+id_escaped kind number property text =
+    escaped_append true kind (46 ∷ (decimal number ++ 46 ∷ (property ++ []))) text
     ∙ ap (λ (t : List ℕ). escaped true kind ++ t) (dot (decimal number ++ 46 ∷ (property ++ []))
-    ∙ ap (λ (t : List ℕ). 46 ∷ t) (flat_map-append (escaped_byte true) (decimal number) (46 ∷ (property ++ []))
-    ∙ rw (decimal_mild true number, dot (property ++ []), append-nil, append-nil) refl))
+    ∙ ap (λ (t : List ℕ). 46 ∷ t) (mild_front (decimal number) (46 ∷ (property ++ [])) (decimal_mild number)
+    ∙ rw (dot (property ++ []), append-nil property, append-nil (escaped true property)) refl))
 
 -- ---- the same pieces in other groups
 
@@ -170,7 +212,7 @@ module _ (names : Prefixes) (h : WritesGml names) where
 
   opened_nothing : opened_text [] ≡ codes ">"
   unfolding opened_text joined
-  opened_nothing = refl
+  opened_nothing = rw (all_mild false [] refl) refl
 
   dressed : (start local id srs : List ℕ) → start ≡ codes "<gml:" ++ (local ++ codes " gml:id=\"")
       → tag_text names false (gml_name local) (attributes_of id srs) ++ codes ">" ≡ head_text start id srs
@@ -208,7 +250,7 @@ module _ (names : Prefixes) (h : WritesGml names) where
   list_is : (ps : List Point) → element_text names false (list_tree ps) ≡ list_text ps
   unfolding list_tree some_positions_text positions_text
   list_is [] = without_text (codes "posList")
-  list_is (p ∷ ps) = with_text (codes "posList") (positions_text (p ∷ ps)) (positions_some p ps) (positions_mild false (p ∷ ps))
+  list_is (p ∷ ps) = with_text (codes "posList") (positions_text (p ∷ ps)) (positions_some p ps) (all_mild false (positions_text (p ∷ ps)) (positions_mild (p ∷ ps)))
 
   one : (e : Element) → flat_map (element_text names false) (e ∷ []) ≡ element_text names false e
   one e = flat_map-cons (element_text names false) e [] ∙ append-nil (element_text names false e)
@@ -235,7 +277,7 @@ module _ (names : Prefixes) (h : WritesGml names) where
       ∙ rw (hole_is hole, holes_are holes) (sym (flat_map-cons hole_text hole holes))
 
   position_is : (p : Point) → element_text names false (leaf (codes "pos") (position_text p)) ≡ joined (codes "<gml:pos>" ∷ position_text p ∷ codes "</gml:pos>" ∷ [])
-  position_is p = with_text (codes "pos") (position_text p) (position_some p) (position_mild false p)
+  position_is p = with_text (codes "pos") (position_text p) (position_some p) (all_mild false (position_text p) (position_mild p))
 
   point_is : (p : Point) (id srs : List ℕ) → element_text names false (tree_of (At p) id srs) ≡ point_text p id srs
   unfolding tree_of point_text joined

@@ -1,3 +1,5 @@
+//! What holds of each element of GML: its name, its reference system, and where it ends.
+
 ghost use Rattle.std.specs.Prelude.{◌≡◌};
 ghost use Rattle.std.specs.List.{list_all};
 ghost use Rattle.doc_attributes.specs.Names.{is_among};

@@ -1,3 +1,5 @@
+//! The element of an envelope, read as a box.
+
 ghost use Rattle.std.specs.Prelude.{◌≡◌};
 ghost use Rattle.gml_docs.specs.Elements.{lower_corner, upper_corner, box_above, corners_of, envelope_of};
 

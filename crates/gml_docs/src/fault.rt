@@ -1,3 +1,5 @@
+//! What can be wrong with the element of a geometry.
+
 use geom_core::GeomFault;
 use std::alloc::{AllocError, AllocFailed};
 use wfs_ends::OutOfMemory;

@@ -1,3 +1,5 @@
+//! What holds of reading and writing together.
+
 ghost use Rattle.gml_docs.specs.Printed.{StandsAlike};
 ghost use Rattle.gml_docs.specs.RoundTrip.{ReadsBack};
 

@@ -1,3 +1,5 @@
+//! A word as a coordinate, and two of them as a position.
+
 ghost use Rattle.std.specs.Prelude.{◌≡◌, ◌≤◌, ◌*◌, ◌+◌, ◌-◌, ◌==◌, length, take, option_map, IfSome, IsTrue, pos, neg_ℤ};
 ghost use Rattle.std.specs.List.{list_all};
 ghost use Rattle.std.specs.Char.{is_ascii_digit};

@@ -1,3 +1,5 @@
+//! The positions of an element: one `pos`, a `posList`, or several `pos`.
+
 ghost use Rattle.std.specs.Prelude.{◌≡◌, [], ◌∷◌};
 ghost use Rattle.wfs_ends.specs.Read.{GivesBut, each};
 ghost use Rattle.gml_docs.specs.Elements.{position_at, only_position, list_at, next_position, several, path_of};

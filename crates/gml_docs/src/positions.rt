@@ -1,3 +1,5 @@
+//! The text of an element as positions: two numbers each.
+
 ghost use Rattle.std.specs.Prelude.{◌≡◌, IfOk};
 ghost use Rattle.std.specs.Result.{result_map_both};
 ghost use Rattle.wfs_ends.specs.Read.{GivesBut};

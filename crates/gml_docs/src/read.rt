@@ -1,3 +1,5 @@
+//! The elements of points, line strings and polygons, read as geometries.
+
 ghost use Rattle.std.specs.Prelude.{◌≡◌, [], ◌∷◌};
 ghost use Rattle.wfs_ends.specs.Read.{GivesBut, each};
 ghost use Rattle.gml_docs.specs.Elements.{point_at, line_at, ring_at, only_ring, side_at, next_hole, area_of, polygon_at, geometry_of};
@@ -9,7 +11,7 @@ use crate::path::{only_position, path_of};
 use doc_tree::Element;
 use geom_core::{Geometry, Line, Polygon, Ring};
 use std::alloc::Global;
-use wfs_ends::{List, Text};
+use wfs_ends::{List, Shared, Text};
 
 // A Point.
 #[tactic(auto, unfolding(crate::specs::Elements::point_at))]
@@ -29,7 +31,7 @@ fn line_at(alloc: Global, element: &Element, srs: &List<Text>) -> Result<Geometr
     fit(element, srs)?;
     let positions = path_of(alloc, element.children.items(), srs)?;
     let line = Line::new(positions)?;
-    Ok(Geometry::Along(line))
+    Ok(Geometry::Along(Shared::new(alloc, line)?))
 }
 
 // A LinearRing.
@@ -115,7 +117,7 @@ fn polygon_at(alloc: Global, element: &Element, srs: &List<Text>) -> Result<Geom
 {
     fit(element, srs)?;
     let area = area_of(alloc, element.children.items(), srs)?;
-    Ok(Geometry::Over(area))
+    Ok(Geometry::Over(Shared::new(alloc, area)?))
 }
 
 /// The geometry of an element of GML 3.2.1 (OGC 07-036, sections 10.1.4, 10.3.1, 10.4.4 and 10.5): a `gml:Point` with a

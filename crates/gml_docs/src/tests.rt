@@ -150,8 +150,9 @@ fn described(alloc: Global, g: &Geometry) -> Mem<String> {
             text.push_str("at")?;
             add_position(&mut text, *p)?;
         }
-        Geometry::Along(line) => add_positions(&mut text, "along", line.positions())?,
+        Geometry::Along(line) => add_positions(&mut text, "along", line.item().positions())?,
         Geometry::Over(area) => {
+            let area = area.item();
             add_positions(&mut text, "over", area.shell().positions())?;
             for hole in area.holes() {
                 add_positions(&mut text, " but", hole.positions())?;

@@ -1,3 +1,5 @@
+//! The element that stands for a geometry, as a tree.
+
 ghost use Rattle.std.specs.Prelude.{◌≡◌, ◌++◌, ◌∷◌, [], IfOk, OnOk, string_bytes};
 ghost use Rattle.std.specs.List.{flat_map};
 ghost use Rattle.std.specs.Fmt.{signed_decimal};
@@ -71,7 +73,7 @@ fn position_text(alloc: Global, p: Pos) -> Mem<Text>
 {
     let mut line = String::new(alloc);
     add_position(&mut line, p)?;
-    Ok(Text::of_string(line))
+    Text::of_string(line)
 }
 
 fn positions_text(alloc: Global, positions: &[Pos]) -> Mem<Text>
@@ -79,7 +81,7 @@ fn positions_text(alloc: Global, positions: &[Pos]) -> Mem<Text>
 {
     let mut line = String::new(alloc);
     add_positions(&mut line, positions)?;
-    Ok(Text::of_string(line))
+    Text::of_string(line)
 }
 
 #[tactic(auto, unfolding(crate::specs::Written::gml_name))]
@@ -244,7 +246,7 @@ pub fn geometry_tree(alloc: Global, g: &Geometry, id: &Text, srs: &Text) -> Mem<
 {
     match g {
         Geometry::At(p) => point_tree(alloc, *p, id, srs),
-        Geometry::Along(line) => line_tree(alloc, line.positions(), id, srs),
-        Geometry::Over(area) => area_tree(alloc, area, id, srs),
+        Geometry::Along(line) => line_tree(alloc, line.item().positions(), id, srs),
+        Geometry::Over(area) => area_tree(alloc, area.item(), id, srs),
     }
 }

@@ -1,3 +1,5 @@
+//! A text cut into words at white space.
+
 ghost use Rattle.std.specs.Prelude.{◌≡◌, ◌≤◌, ◌<◌, [], ◌∷◌, length, MatchOption};
 ghost use Rattle.std.specs.List.{prefix_len, position_or_len};
 ghost use Rattle.gml_docs.specs.Numbers.{is_space, words};
