@@ -33,6 +33,7 @@ is_taken text =
     bytes_eq text (codes "wfs") || (bytes_eq text (codes "fes") || (bytes_eq text (codes "gml") || (bytes_eq text (codes "ows")
     || (bytes_eq text (codes "xlink") || bytes_eq text (codes "xs")))))
 
--- a prefix: a name that is none of these, and that does not begin as Namespaces in XML 1.0 (section 3) reserves
+-- a prefix: a name that is none of these, and that does not begin with xml. Namespaces in XML 1.0 (section 3) reserves xml in
+-- any case; that small letters alone are refused is this project's own.
 unfoldable pub is_prefix : List ℕ → Bool
 is_prefix text = is_name text && (not (is_taken text) && not (starts_with nat_eq text (codes "xml")))

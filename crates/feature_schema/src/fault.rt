@@ -1,3 +1,5 @@
+//! What can be wrong with a schema file.
+
 ghost use Rattle.std.specs.Prelude.{◌≡◌};
 
 use std::alloc::{AllocError, AllocFailed, Global};

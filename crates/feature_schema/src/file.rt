@@ -1,3 +1,5 @@
+//! The whole file, and the keys at its top.
+
 ghost use Rattle.std.specs.Prelude.{◌≡◌, [], map};
 ghost use Rattle.toml.specs.View.{view, table_view};
 ghost use Rattle.wfs_ends.specs.Read.{GivesBut, each};

@@ -1,3 +1,5 @@
+//! The signature of a schema, by which a journal knows it.
+
 ghost use Rattle.std.specs.Prelude.{◌≡◌, ◌++◌, IfOk, OnOk, string_bytes};
 ghost use Rattle.std.specs.List.{flat_map};
 ghost use Rattle.feature_schema.specs.Signature.{kind_word, property_text, next_text, properties_text, type_text, signature_text};
@@ -95,5 +97,5 @@ pub fn signature(alloc: Global, schema: &Schema) -> Mem<Text>
 {
     let mut line = String::new(alloc);
     add_types(&mut line, schema.types.items())?;
-    Ok(Text::of_string(line))
+    Text::of_string(line)
 }

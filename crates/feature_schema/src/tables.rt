@@ -1,3 +1,5 @@
+//! The values at the keys of a table, and the keys that it may not have.
+
 ghost use Rattle.std.specs.Prelude.{◌≡◌, map, option_map, option_and_then, find, string_bytes, not};
 ghost use Rattle.std.specs.BTreeMap.{keys};
 ghost use Rattle.std.specs.List.{list_any, list_all};

@@ -1,3 +1,5 @@
+//! Files that are right and files that are wrong, with what is said of each, and signatures.
+
 use super::*;
 use crate::tests::files::{ENDS, HEAD, LENGTHS, MARKS, RIGHT, WRONG};
 use feature_values::{FeatureType, Property, Schema, ValueKind};

@@ -1,3 +1,5 @@
+//! Why a value or a feature is refused.
+
 use wfs_ends::OutOfMemory;
 
 /// Why a value or a feature is refused.

@@ -1,3 +1,5 @@
+//! Features and their identifiers.
+
 ghost use Rattle.std.specs.Prelude.{◌≡◌, IfOk};
 
 use crate::value::Value;

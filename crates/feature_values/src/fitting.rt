@@ -1,3 +1,5 @@
+//! Which features a schema allows.
+
 ghost use Rattle.std.specs.Prelude.{◌≡◌, length};
 ghost use Rattle.feature_values.specs.Fits.{is_of_kind, value_fits, values_fit, type_fits, feature_fits};
 

@@ -1,3 +1,5 @@
+//! The names of types and properties, and the identifiers of features as text.
+
 ghost use Rattle.std.specs.Prelude.{◌≡◌};
 ghost use Rattle.feature_values.specs.Ids.{type_named, property_named, without_prefix, number_of, rid_of};
 

@@ -1,3 +1,5 @@
+//! Texts read as values.
+
 ghost use Rattle.std.specs.Prelude.{◌≡◌, ◌+◌, ◌≤◌, length};
 ghost use Rattle.std.specs.List.{prefix_len, suffix_len};
 ghost use Rattle.wfs_ends.specs.Read.{GivesBut};

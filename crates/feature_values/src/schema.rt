@@ -1,3 +1,5 @@
+//! The feature types of a service, and what values their properties have.
+
 ghost use Rattle.std.specs.Prelude.{◌≡◌, IfOk};
 
 use std::alloc::Global;

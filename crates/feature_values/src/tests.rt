@@ -1,7 +1,9 @@
+//! Values of each kind, as text and against a schema, and identifiers.
+
 use super::*;
 use geom_core::{Geometry, Line, Polygon, Pos, Ring};
 use std::alloc::Global;
-use wfs_ends::{List, Mem, Text};
+use wfs_ends::{List, Mem, Shared, Text};
 
 mod judging;
 mod naming;
@@ -34,7 +36,7 @@ fn corners(alloc: Global) -> Mem<Vec<Pos>> {
 // The line along the corners, or null where they make none.
 fn line(alloc: Global) -> Mem<Value> {
     Ok(match Line::new(corners(alloc)?) {
-        Ok(line) => Value::Shape(Geometry::Along(line)),
+        Ok(line) => Value::Shape(Geometry::Along(Shared::new(alloc, line)?)),
         Err(_) => Value::Null,
     })
 }
@@ -45,7 +47,7 @@ fn polygon(alloc: Global) -> Mem<Value> {
         return Ok(Value::Null);
     };
     Ok(match Polygon::new(shell, Vec::new(alloc)) {
-        Ok(area) => Value::Shape(Geometry::Over(area)),
+        Ok(area) => Value::Shape(Geometry::Over(Shared::new(alloc, area)?)),
         Err(_) => Value::Null,
     })
 }

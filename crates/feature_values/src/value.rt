@@ -1,3 +1,5 @@
+//! Values of properties, and their order.
+
 ghost use Rattle.std.specs.Prelude.{◌≡◌, IfOk};
 ghost use Rattle.feature_values.specs.Order.{order_of};
 
@@ -27,7 +29,7 @@ impl Value {
             Value::Words(text) => Ok(Value::Words(text.copy(alloc)?)),
             Value::Whole(number) => Ok(Value::Whole(*number)),
             Value::Truth(truth) => Ok(Value::Truth(*truth)),
-            Value::Shape(shape) => Ok(Value::Shape(shape.copy(alloc)?)),
+            Value::Shape(shape) => Ok(Value::Shape(shape.copy()?)),
         }
     }
 }
