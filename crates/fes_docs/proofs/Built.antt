@@ -1,5 +1,5 @@
 -- What the readers see of an element that was written.
-use Rattle.std.proofs.Common.{◌≡◌, ℕ, List, [], Ok, refl, ap}
+use Rattle.std.proofs.Common.{◌≡◌, ℕ, List, [], ◌∷◌, Ok, refl, ap}
 use Rattle.std.specs.Str.{bytes_eq}
 use Rattle.doc_tree.specs.declared.tree.QName.{QName}
 use Rattle.doc_tree.specs.declared.tree.Attribute.{Attribute}
@@ -9,6 +9,7 @@ use Rattle.doc_tree.specs.declared.tree.Element.TheViews.{out-roll-Element}
 use Rattle.doc_attributes.specs.Names.{is_name, value_at}
 use Rattle.doc_attributes.specs.Others.{first_other}
 use Rattle.fes_docs.specs.Names.{fes_space, is_fes, text_of, value_of, refused, no_others, no_more, plain}
+use Rattle.fes_docs.specs.Sides.{match_case, case_of, only_case}
 use Rattle.fes_docs.specs.Written.{element, leaf, parent}
 
 module _ (local : List ℕ) (attributes : List Attribute) (children : List Element) (text : List ℕ) where
@@ -74,6 +75,10 @@ module _ (local : List ℕ) (children : List Element) where
   pub parent_others : no_others [] (parent local children) ≡ Ok tt
   unfolding parent
   parent_others = has_others local [] children [] []
+
+  pub parent_case : only_case (parent local children) ≡ Ok tt
+  unfolding only_case case_of parent
+  parent_case = rw (has_value local [] children [] match_case, has_others local [] children [] (match_case ∷ [])) refl
 
   pub parent_named : (want : List ℕ) → is_fes want (parent local children) ≡ bytes_eq local want
   unfolding parent

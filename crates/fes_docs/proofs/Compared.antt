@@ -1,6 +1,6 @@
 -- Comparisons read back as they were written.
 use Rattle.std.proofs.Common.{◌≡◌, ◌⊎◌, inl, inr, ℕ, Bool, true, false, List, [], ◌∷◌, Option, Some, None, Ok, Err, refl, sym, ap, subst, ◌∙◌}
-use Rattle.std.specs.Prelude.{codes, if◌then◌else◌}
+use Rattle.std.specs.Prelude.{◌&&◌, codes, if◌then◌else◌}
 use Rattle.std.specs.List.{list_any}
 use Rattle.std.specs.Str.{bytes_eq}
 use Rattle.wfs_ends.specs.Read.{◌>>=◌}
@@ -21,27 +21,26 @@ use Rattle.fes_docs.specs.declared.fault.FilterDocFault.{FilterDocFault}
 use Rattle.doc_attributes.specs.Names.{value_at}
 use Rattle.doc_attributes.specs.Others.{is_other, first_other}
 use Rattle.fes_docs.specs.Names.{is_fes, text_of, value_of, refused, named, no_more, first_in, no_others}
-use Rattle.fes_docs.specs.Sides.{Sides, comparable_at, literal_as, literal_at, beside, right_of, left_of, sides_from, sides_of, match_case, fold_by, fold_of, action_of, only_matches, folded, compare_of}
+use Rattle.fes_docs.specs.Sides.{Sides, comparable_at, literal_as, literal_at, beside, right_of, left_of, sides_from, sides_of, match_case, case_by, fold_of, action_of, only_matches, folded, compare_of}
 use Rattle.fes_docs.specs.Written.{reference, side, comparison_name, case_attributes, attribute, compare_tree}
 use Rattle.fes_docs.proofs.Built.{no_more_at_end, has_children, has_value, has_others}
 use Rattle.fes_docs.proofs.Beside.{one_of_two, named_reference, reference_stands, comparable_again, literal_written, beside_again}
 
 -- ---- matchCase
 
-equal_if : (b c d : Bool) (one two : FilterDocFault) → (if b then Ok false else (if c then (if d then Ok true else Err one) else Err two)) ≡ Ok true → d ≡ true
-equal_if true c d one two e = absurd cc
-equal_if false true true one two e = refl
-equal_if false true false one two e = absurd cc
-equal_if false false d one two e = absurd cc
+may_if : (b c may : Bool) (fault : FilterDocFault) → (if b then Ok false else (if may && c then Ok true else Err fault)) ≡ Ok true → may ≡ true
+may_if true c may fault e = absurd cc
+may_if false c true fault e = refl
+may_if false c false fault e = absurd cc
 
-pub equality_is : (by : By) (r : Option (List ℕ)) → fold_by by r ≡ Ok true → is_equality by ≡ true
-equality_is by None e = absurd cc
-equality_is by (Some value) e = equal_if (bytes_eq value (codes "true")) (bytes_eq value (codes "false")) (is_equality by) _ _ e
+pub may_fold : (may : Bool) (r : Option (List ℕ)) → case_by may r ≡ Ok true → may ≡ true
+may_fold may None e = absurd cc
+may_fold may (Some value) e = may_if (bytes_eq value (codes "true")) (bytes_eq value (codes "false")) may _ e
 
-case_again : (by : By) (fold : Bool) (r : Option (List ℕ)) → fold_by by r ≡ Ok fold → fold_by by (value_at [] match_case (case_attributes fold)) ≡ Ok fold
+case_again : (may fold : Bool) (r : Option (List ℕ)) → case_by may r ≡ Ok fold → case_by may (value_at [] match_case (case_attributes fold)) ≡ Ok fold
 unfolding attribute plain_name
-case_again by true r e = rw (equality_is by r e) refl
-case_again by false r e = refl
+case_again may true r e = rw (may_fold may r e) refl
+case_again may false r e = refl
 
 no_action : (fold : Bool) → value_at [] (codes "matchAction") (case_attributes fold) ≡ None
 unfolding attribute plain_name
@@ -149,7 +148,7 @@ module _ (parameters : Option (List (List ℕ))) (schema : Schema) (kind : Optio
 
     fold_again : (e : Element) → fold_of by e ≡ Ok fold → fold_of by tree ≡ Ok fold
     unfolding fold_of
-    fold_again e h = ap (fold_by by) (tree_value match_case) ∙ case_again by fold (value_of match_case e) h
+    fold_again e h = ap (case_by (is_equality by)) (tree_value match_case) ∙ case_again (is_equality by) fold (value_of match_case e) h
 
   pub compare_again : (by : By) (e : Element) (f : Filter) → compare_of parameters of_type by e ≡ Ok f
       → (x : Expr) × (y : Expr) × (fold : Bool) × (f ≡ Compare by x y fold) × (compare_of parameters of_type by (compare_tree parameters schema kind by x y fold) ≡ Ok f)

@@ -28,11 +28,11 @@ use Rattle.fes_docs.specs.declared.fault.FilterDocFault.{FilterDocFault}
 use Rattle.fes_docs.specs.declared.operator.Predicate.{Predicate}
 use Rattle.fes_docs.specs.declared.operator.Predicate.TheVariants as Test
 use Rattle.fes_docs.specs.Names.{is_fes, text_of, value_of, named, no_more, no_others, first_in}
-use Rattle.fes_docs.specs.Sides.{Sides, property_at, comparable_at, or_types, literal_as, literal_at, beside, right_of, left_of, sides_from, sides_of, fold_of, action_of, only_matches, folded, compare_of, bound_at, bounds_of, between_of, null_of, match_case}
+use Rattle.fes_docs.specs.Sides.{Sides, property_at, comparable_at, or_types, literal_as, literal_at, beside, right_of, left_of, sides_from, sides_of, fold_of, action_of, only_matches, folded, compare_of, bound_at, bounds_of, only_case, between_of, null_of, match_case}
 use Rattle.fes_docs.specs.Spatial.{drawn, shape_at, envelope_alone, box_of, operands_of}
 use Rattle.fes_docs.specs.Ids.{id_at}
 use Rattle.fes_docs.specs.Filters.{only_id, predicate_of}
-use Rattle.fes_docs.proofs.Compared.{equality_is}
+use Rattle.fes_docs.proofs.Compared.{may_fold}
 use Rattle.fes_docs.proofs.Beside.{one_of_two}
 use Rattle.fes_docs.proofs.Likes.{IsLike, like_is}
 use Rattle.fes_docs.proofs.Suits.{at_kind, comparable_is, shape_is, Suits, own_suits, literal_suits, beside_suits}
@@ -46,7 +46,7 @@ words_if false fault u e = absurd cc
 -- case is left out of texts alone, and where they are compared for equality
 folds_so : (by : By) (e : Element) (fold : Bool) (k : ValueKind) (u : Unit {0}) → fold_of by e ≡ Ok fold → folded fold k ≡ Ok u → (not fold || (is_words k && is_equality by)) ≡ true
 unfolding fold_of folded
-folds_so by e true k u h g = rw (words_if (is_words k) _ u g, equality_is by (value_of match_case e) h) refl
+folds_so by e true k u h g = rw (words_if (is_words k) _ u g, may_fold (is_equality by) (value_of match_case e) h) refl
 folds_so by e false k u h g = refl
 
 module _ (parameters : Option (List (List ℕ))) (schema : Schema) (kind : Option ℕ) where
@@ -174,7 +174,7 @@ module _ (parameters : Option (List (List ℕ))) (schema : Schema) (kind : Optio
   between_fine : (e : Element) (f : Filter) → between_of parameters of_type e ≡ Ok f → IsOne f
   unfolding between_of
   between_fine e f h =
-      let none = bind_ok (no_others [] e) _ f h in
+      let none = bind_ok (only_case e) _ f h in
       let a = bind_ok (first_in e (out-Element e).children) _ f none.2 in
       let is = bind_ok (named (codes "ValueReference") a.0.0) _ f a.2 in
       let p = bind_ok (comparable_at of_type Less a.0.0) _ f is.2 in
@@ -188,7 +188,7 @@ module _ (parameters : Option (List (List ℕ))) (schema : Schema) (kind : Optio
   null_fine : (e : Element) (f : Filter) → null_of of_type e ≡ Ok f → IsOne f
   unfolding null_of null_fault
   null_fine e f h =
-      let none = bind_ok (no_others [] e) _ f h in
+      let none = bind_ok (only_case e) _ f h in
       let a = bind_ok (first_in e (out-Element e).children) _ f none.2 in
       let is = bind_ok (named (codes "ValueReference") a.0.0) _ f a.2 in
       let p = bind_ok (property_at of_type a.0.0) _ f is.2 in

@@ -26,7 +26,7 @@ use Rattle.fes_docs.specs.declared.fault.FilterDocFault.{FilterDocFault}
 use Rattle.doc_attributes.specs.Names.{value_at}
 use Rattle.doc_attributes.specs.Others.{is_other, first_other}
 use Rattle.fes_docs.specs.Names.{text_of, refused, named, no_more, first_in, plain}
-use Rattle.fes_docs.specs.Sides.{property_at, suited}
+use Rattle.fes_docs.specs.Sides.{property_at, suited, match_case, case_of}
 use Rattle.fes_docs.specs.Like.{one_of, mark_in, mark_of, marks_of, only_marks, next_part, pattern_of, pattern_behind, like_of}
 use Rattle.fes_docs.specs.Written.{attribute, reference, leaf, part_text, mark_attributes, like_tree}
 use Rattle.fes_docs.specs.RoundTrip.{part_characters}
@@ -150,13 +150,21 @@ module _ (schema : Schema) (kind : Option ℕ) (no_colon : list_any is_colon sch
   unfolding marks_of lib.Utf8.encode
   marks_again = rw (mark_is (codes "wildCard") 42 many_at refl, mark_is (codes "singleChar") 46 one_at refl, mark_is (codes "escapeChar") 33 escape_at refl) refl
 
-  no_other : first_other (codes "wildCard" ∷ codes "singleChar" ∷ codes "escapeChar" ∷ []) mark_attributes ≡ None
+  no_case : value_at [] match_case mark_attributes ≡ None
+  unfolding attribute plain_name
+  no_case = refl
+
+  case_again : case_of tree ≡ Ok tt
+  unfolding case_of like_tree
+  case_again = rw (has_value (codes "PropertyIsLike") mark_attributes children [] match_case, no_case) refl
+
+  no_other : first_other (match_case ∷ codes "wildCard" ∷ codes "singleChar" ∷ codes "escapeChar" ∷ []) mark_attributes ≡ None
   unfolding attribute plain_name is_other
   no_other = refl
 
   only_again : only_marks tree ≡ Ok tt
   unfolding only_marks like_tree
-  only_again = has_others (codes "PropertyIsLike") mark_attributes children [] (codes "wildCard" ∷ codes "singleChar" ∷ codes "escapeChar" ∷ []) ∙ ap refused no_other
+  only_again = has_others (codes "PropertyIsLike") mark_attributes children [] (match_case ∷ codes "wildCard" ∷ codes "singleChar" ∷ codes "escapeChar" ∷ []) ∙ ap refused no_other
 
   literal_named : named (codes "Literal") (leaf (codes "Literal") (flat_map part_text parts)) ≡ Ok tt
   unfolding named
@@ -169,6 +177,7 @@ module _ (schema : Schema) (kind : Option ℕ) (no_colon : list_any is_colon sch
   like_written : (k : ValueKind) (e : Element) → property_at (type_in schema kind) e ≡ Ok (i, k) → is_words k ≡ true → All IsScalar (flat_map part_characters parts) → like_of (type_in schema kind) tree ≡ Ok (Like i parts)
   unfolding like_of first_in
   like_written k e at words h = rw (
+    case_again,
     marks_again,
     only_again,
     tree_children,
@@ -205,7 +214,8 @@ module _ (schema : Schema) (kind : Option ℕ) where
   pub like_is : (e : Element) (f : Filter) → like_of of_type e ≡ Ok f → IsLike schema kind f
   unfolding like_of
   like_is e f h =
-      let ms = bind_ok (marks_of e) (λ ms. only_marks e >>= λ _. first_in e (out-Element e).children >>= λ a. named (codes "ValueReference") a.0 >>= λ _. property_at of_type a.0 >>= λ p. suited (is_words p.1) a.0 >>= λ _. pattern_behind ms p.0 e a.1) f h in
+      let kept = bind_ok (case_of e) (λ _. marks_of e >>= λ ms. only_marks e >>= λ _. first_in e (out-Element e).children >>= λ a. named (codes "ValueReference") a.0 >>= λ _. property_at of_type a.0 >>= λ p. suited (is_words p.1) a.0 >>= λ _. pattern_behind ms p.0 e a.1) f h in
+      let ms = bind_ok (marks_of e) (λ ms. only_marks e >>= λ _. first_in e (out-Element e).children >>= λ a. named (codes "ValueReference") a.0 >>= λ _. property_at of_type a.0 >>= λ p. suited (is_words p.1) a.0 >>= λ _. pattern_behind ms p.0 e a.1) f kept.2 in
       let only = bind_ok (only_marks e) (λ _. first_in e (out-Element e).children >>= λ a. named (codes "ValueReference") a.0 >>= λ _. property_at of_type a.0 >>= λ p. suited (is_words p.1) a.0 >>= λ _. pattern_behind ms.0 p.0 e a.1) f ms.2 in
       let a = bind_ok (first_in e (out-Element e).children) (λ a. named (codes "ValueReference") a.0 >>= λ _. property_at of_type a.0 >>= λ p. suited (is_words p.1) a.0 >>= λ _. pattern_behind ms.0 p.0 e a.1) f only.2 in
       let is = bind_ok (named (codes "ValueReference") a.0.0) (λ _. property_at of_type a.0.0 >>= λ p. suited (is_words p.1) a.0.0 >>= λ _. pattern_behind ms.0 p.0 e a.0.1) f a.2 in

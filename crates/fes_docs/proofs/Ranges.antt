@@ -17,9 +17,9 @@ use Rattle.fes_filter.specs.declared.filter.Filter.{Filter}
 use Rattle.fes_filter.specs.declared.filter.Filter.TheVariants.{Between, IsNull}
 use Rattle.fes_docs.specs.declared.fault.FilterDocFault.{FilterDocFault}
 use Rattle.fes_docs.specs.Names.{text_of, named, no_more, first_in, no_others}
-use Rattle.fes_docs.specs.Sides.{property_at, comparable_at, beside, bound_at, bounds_of, between_of, null_of}
+use Rattle.fes_docs.specs.Sides.{property_at, comparable_at, beside, bound_at, bounds_of, only_case, between_of, null_of}
 use Rattle.fes_docs.specs.Written.{parent, reference, side, bound_tree, between_tree, null_tree}
-use Rattle.fes_docs.proofs.Built.{no_more_at_end, parent_children, parent_others, parent_named}
+use Rattle.fes_docs.proofs.Built.{no_more_at_end, parent_children, parent_others, parent_case, parent_named}
 use Rattle.fes_docs.proofs.Named.{reference_again}
 use Rattle.fes_docs.proofs.Beside.{reference_stands, comparable_again, beside_again}
 
@@ -82,7 +82,7 @@ module _ (parameters : Option (List (List ℕ))) (schema : Schema) (kind : Optio
       → (i : ℕ) × (low : Expr) × (high : Expr) × (f ≡ Between i low high) × (between_of parameters of_type (between_tree parameters schema kind i low high) ≡ Ok f)
   unfolding between_of between_tree first_in
   between_again e f h =
-      let none = bind_ok (no_others [] e) (λ _. first_in e (out-Element e).children >>= λ a. named (codes "ValueReference") a.0 >>= λ _. comparable_at of_type Less a.0 >>= λ p. bounds_of parameters of_type p.1 (text_of a.0) e a.1 >>= λ b. Ok (Between p.0 b.0 b.1)) f h in
+      let none = bind_ok (only_case e) (λ _. first_in e (out-Element e).children >>= λ a. named (codes "ValueReference") a.0 >>= λ _. comparable_at of_type Less a.0 >>= λ p. bounds_of parameters of_type p.1 (text_of a.0) e a.1 >>= λ b. Ok (Between p.0 b.0 b.1)) f h in
       let a = bind_ok (first_in e (out-Element e).children) (λ a. named (codes "ValueReference") a.0 >>= λ _. comparable_at of_type Less a.0 >>= λ p. bounds_of parameters of_type p.1 (text_of a.0) e a.1 >>= λ b. Ok (Between p.0 b.0 b.1)) f none.2 in
       let is = bind_ok (named (codes "ValueReference") a.0.0) (λ _. comparable_at of_type Less a.0.0 >>= λ p. bounds_of parameters of_type p.1 (text_of a.0.0) e a.0.1 >>= λ b. Ok (Between p.0 b.0 b.1)) f a.2 in
       let p = bind_ok (comparable_at of_type Less a.0.0) (λ p. bounds_of parameters of_type p.1 (text_of a.0.0) e a.0.1 >>= λ b. Ok (Between p.0 b.0 b.1)) f is.2 in
@@ -94,7 +94,7 @@ module _ (parameters : Option (List (List ℕ))) (schema : Schema) (kind : Optio
         b.0.1,
         f_is,
         rw (
-          parent_others (codes "PropertyIsBetween") children,
+          parent_case (codes "PropertyIsBetween") children,
           parent_children (codes "PropertyIsBetween") children,
           reference_stands parameters schema kind no_colon p.0.0,
           comparable_again parameters schema kind no_colon Less a.0.0 p.0 p.1,
@@ -107,7 +107,7 @@ module _ (parameters : Option (List (List ℕ))) (schema : Schema) (kind : Optio
   pub null_again : (e : Element) (f : Filter) → null_of of_type e ≡ Ok f → (i : ℕ) × (f ≡ IsNull i) × (null_of of_type (null_tree schema kind i) ≡ Ok f)
   unfolding null_of null_tree first_in
   null_again e f h =
-      let none = bind_ok (no_others [] e) (λ _. first_in e (out-Element e).children >>= λ a. named (codes "ValueReference") a.0 >>= λ _. property_at of_type a.0 >>= λ p. no_more a.1 >>= λ _. Ok (IsNull p.0)) f h in
+      let none = bind_ok (only_case e) (λ _. first_in e (out-Element e).children >>= λ a. named (codes "ValueReference") a.0 >>= λ _. property_at of_type a.0 >>= λ p. no_more a.1 >>= λ _. Ok (IsNull p.0)) f h in
       let a = bind_ok (first_in e (out-Element e).children) (λ a. named (codes "ValueReference") a.0 >>= λ _. property_at of_type a.0 >>= λ p. no_more a.1 >>= λ _. Ok (IsNull p.0)) f none.2 in
       let is = bind_ok (named (codes "ValueReference") a.0.0) (λ _. property_at of_type a.0.0 >>= λ p. no_more a.0.1 >>= λ _. Ok (IsNull p.0)) f a.2 in
       let p = bind_ok (property_at of_type a.0.0) (λ p. no_more a.0.1 >>= λ _. Ok (IsNull p.0)) f is.2 in
@@ -117,7 +117,7 @@ module _ (parameters : Option (List (List ℕ))) (schema : Schema) (kind : Optio
         p.0.0,
         f_is,
         rw (
-          parent_others (codes "PropertyIsNull") children,
+          parent_case (codes "PropertyIsNull") children,
           parent_children (codes "PropertyIsNull") children,
           reference_stands parameters schema kind no_colon p.0.0,
           reference_again schema kind no_colon a.0.0 p.0 p.1,

@@ -12,7 +12,7 @@ use Rattle.fes_filter.specs.declared.filter.Filter.{Filter}
 use Rattle.fes_filter.specs.declared.filter.Filter.TheVariants.{Like}
 use Rattle.fes_filter.specs.declared.fault.FilterFault.TheVariants.{Choice}
 use Rattle.fes_docs.specs.Names.{text_of, value_of, no_others, named, no_more, first_in, plain, missing}
-use Rattle.fes_docs.specs.Sides.{property_at, suited}
+use Rattle.fes_docs.specs.Sides.{property_at, suited, match_case, case_of}
 use Rattle.fes_docs.specs.declared.like.Marks.{Marks}
 use Rattle.fes_docs.specs.declared.fault.FilterDocFault.{FilterDocFault}
 use Rattle.fes_docs.specs.declared.fault.FilterDocFault.TheVariants.{Checked}
@@ -42,9 +42,9 @@ marks_of e = do
   escape ← mark_of (codes "escapeChar") e
   if (many == one) || (many == escape) || (one == escape) then Err bad_marks else Ok (record { many = many; one = one; escape = escape })
 
--- there are no attributes but these
+-- there are no attributes but these and matchCase
 unfoldable pub only_marks : Element → Result (Unit {0}) FilterDocFault
-only_marks e = no_others (codes "wildCard" ∷ codes "singleChar" ∷ codes "escapeChar" ∷ []) e
+only_marks e = no_others (match_case ∷ codes "wildCard" ∷ codes "singleChar" ∷ codes "escapeChar" ∷ []) e
 
 -- ---- the pattern
 
@@ -78,6 +78,7 @@ pattern_behind marks property whole es = do
 -- a property of texts, and then a pattern
 unfoldable pub like_of : Option FeatureType → Element → Result Filter FilterDocFault
 like_of of_type e = do
+  _ ← case_of e
   marks ← marks_of e
   _ ← only_marks e
   f ← first_in e (out-Element e).children

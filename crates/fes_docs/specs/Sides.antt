@@ -115,15 +115,26 @@ sides_of parameters of_type by e = do
 abbrev pub match_case : List ℕ
 match_case = codes "matchCase"
 
--- matchCase is true or false, and false on the two equalities alone
-abbrev pub fold_by : By → Option (List ℕ) → Result Bool FilterDocFault
-fold_by by None = Ok false
-fold_by by (Some value) =
+-- matchCase is true, which changes nothing, or, where case may be left out, false
+abbrev pub case_by : Bool → Option (List ℕ) → Result Bool FilterDocFault
+case_by may None = Ok false
+case_by may (Some value) =
     if bytes_eq value (codes "true") then Ok false else
-    (if bytes_eq value (codes "false") then (if is_equality by then Ok true else Err (Checked Choice match_case)) else Err (Operator match_case))
+    (if may && bytes_eq value (codes "false") then Ok true else Err (Checked Choice match_case))
 
+-- it is false on the two equalities alone
 unfoldable pub fold_of : By → Element → Result Bool FilterDocFault
-fold_of by e = fold_by by (value_of match_case e)
+fold_of by e = case_by (is_equality by) (value_of match_case e)
+
+-- an operator that never leaves case out
+unfoldable pub case_of : Element → Result (Unit {0}) FilterDocFault
+case_of e = case_by false (value_of match_case e) >>= λ _. Ok tt
+
+-- it has no attribute but matchCase
+unfoldable pub only_case : Element → Result (Unit {0}) FilterDocFault
+only_case e = do
+  _ ← case_of e
+  no_others (match_case ∷ []) e
 
 abbrev pub is_action : Option (List ℕ) → Bool
 is_action None = true
@@ -179,7 +190,7 @@ bounds_of parameters of_type kind name whole es = do
 -- PropertyIsBetween: a property with an order, and then the two bounds
 unfoldable pub between_of : Option (List (List ℕ)) → Option FeatureType → Element → Result Filter FilterDocFault
 between_of parameters of_type e = do
-  _ ← no_others [] e
+  _ ← only_case e
   f ← first_in e (out-Element e).children
   _ ← named (codes "ValueReference") f.0
   p ← comparable_at of_type Less f.0
@@ -191,7 +202,7 @@ between_of parameters of_type e = do
 -- PropertyIsNull: a property of any kind
 unfoldable pub null_of : Option FeatureType → Element → Result Filter FilterDocFault
 null_of of_type e = do
-  _ ← no_others [] e
+  _ ← only_case e
   f ← first_in e (out-Element e).children
   _ ← named (codes "ValueReference") f.0
   p ← property_at of_type f.0

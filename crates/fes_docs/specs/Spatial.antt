@@ -36,12 +36,25 @@ envelope_alone srs whole es = do
   _ ← no_more f.1
   Ok area
 
+-- a property, and behind it an Envelope
+abbrev pub box_behind : List (List ℕ) → Option FeatureType → Element → Element → List Element → Result Filter FilterDocFault
+box_behind srs of_type whole reference es = do
+  property ← shape_at of_type reference
+  area ← envelope_alone srs whole es
+  Ok (InBox (Some property) area)
+
+-- an Envelope without a property
+abbrev pub box_alone : List (List ℕ) → Element → List Element → Result Filter FilterDocFault
+box_alone srs whole es = do
+  area ← envelope_alone srs whole es
+  Ok (InBox None area)
+
 -- a property, which may be left out, and then an Envelope
 unfoldable pub box_of : List (List ℕ) → Option FeatureType → Element → Result Filter FilterDocFault
 box_of srs of_type e = do
   _ ← no_others [] e
   f ← first_in e (out-Element e).children
-  if is_fes (codes "ValueReference") f.0 then (shape_at of_type f.0 >>= λ property. envelope_alone srs e f.1 >>= λ area. Ok (InBox (Some property) area)) else (envelope_alone srs e (out-Element e).children >>= λ area. Ok (InBox None area))
+  if is_fes (codes "ValueReference") f.0 then box_behind srs of_type e f.0 f.1 else box_alone srs e (out-Element e).children
 
 -- ---- Intersects and Disjoint
 

@@ -3,7 +3,7 @@
 ghost use Rattle.std.specs.Prelude.{◌≡◌};
 ghost use Rattle.std.specs.Option.{option_copied};
 ghost use Rattle.wfs_ends.specs.Read.{GivesBut};
-ghost use Rattle.fes_docs.specs.Sides.{fold_by, fold_of, is_action, action_of, only_matches, folded, and_folded, compare_of, bound_at, bounds_of, between_of, null_of};
+ghost use Rattle.fes_docs.specs.Sides.{case_by, fold_of, case_of, only_case, is_action, action_of, only_matches, folded, and_folded, compare_of, bound_at, bounds_of, between_of, null_of};
 ghost use Rattle.fes_docs.specs.declared.fault.FilterDocFault.TheVariants.{OutOfMemory};
 
 use crate::element::{and_no_more, first_in, named, no_more, no_others, value_of};
@@ -17,8 +17,8 @@ use wfs_ends::{List, Text};
 
 // ---- comparisons
 
-fn fold_by(alloc: Global, by: By, value: Option<&Text>) -> Result<bool, FilterDocFault>
-    ensures { GivesBut OutOfMemory (λ x. x) result (fold_by by (option_copied value.entry)) }
+fn case_by(alloc: Global, may: bool, value: Option<&Text>) -> Result<bool, FilterDocFault>
+    ensures { GivesBut OutOfMemory (λ x. x) result (case_by may (option_copied value.entry)) }
 {
     let Some(value) = value else {
         return Ok(false);
@@ -26,13 +26,10 @@ fn fold_by(alloc: Global, by: By, value: Option<&Text>) -> Result<bool, FilterDo
     if value.as_str() == "true" {
         return Ok(false);
     }
-    if value.as_str() == "false" {
-        if is_equality(by) {
-            return Ok(true);
-        }
-        return Err(checked(alloc, FilterFault::Choice, "matchCase"));
+    if may && value.as_str() == "false" {
+        return Ok(true);
     }
-    Err(no_operator(alloc, "matchCase"))
+    Err(checked(alloc, FilterFault::Choice, "matchCase"))
 }
 
 // Whether case is left out.
@@ -40,7 +37,24 @@ fn fold_by(alloc: Global, by: By, value: Option<&Text>) -> Result<bool, FilterDo
 fn fold_of(alloc: Global, by: By, element: &Element) -> Result<bool, FilterDocFault>
     ensures { GivesBut OutOfMemory (λ x. x) result (fold_of by element.now) }
 {
-    fold_by(alloc, by, value_of(element, "matchCase"))
+    case_by(alloc, is_equality(by), value_of(element, "matchCase"))
+}
+
+// Refuses an operator that would leave case out.
+#[tactic(auto, unfolding(crate::specs::Sides::case_of))]
+pub(crate) fn case_of(alloc: Global, element: &Element) -> Result<(), FilterDocFault>
+    ensures { GivesBut OutOfMemory (λ x. x) result (case_of element.now) }
+{
+    case_by(alloc, false, value_of(element, "matchCase"))?;
+    Ok(())
+}
+
+#[tactic(auto, unfolding(crate::specs::Sides::only_case))]
+fn only_case(alloc: Global, element: &Element) -> Result<(), FilterDocFault>
+    ensures { GivesBut OutOfMemory (λ x. x) result (only_case element.now) }
+{
+    case_of(alloc, element)?;
+    no_others(alloc, element, &["matchCase"])
 }
 
 fn is_action(value: Option<&Text>) -> bool
@@ -186,7 +200,7 @@ pub(crate) fn between_of(
 ) -> Result<Filter, FilterDocFault>
     ensures { GivesBut OutOfMemory (λ x. x) result (between_of (option_copied parameters.entry) (option_copied of_type.entry) element.now) }
 {
-    no_others(alloc, element, &[])?;
+    only_case(alloc, element)?;
     let (first, rest) = first_in(alloc, element, element.children.items())?;
     named(alloc, first, "ValueReference")?;
     let (property, kind) = comparable_at(alloc, of_type, By::Less, first)?;
@@ -209,7 +223,7 @@ pub(crate) fn null_of(
 ) -> Result<Filter, FilterDocFault>
     ensures { GivesBut OutOfMemory (λ x. x) result (null_of (option_copied of_type.entry) element.now) }
 {
-    no_others(alloc, element, &[])?;
+    only_case(alloc, element)?;
     let (first, rest) = first_in(alloc, element, element.children.items())?;
     named(alloc, first, "ValueReference")?;
     let (property, _) = property_at(alloc, of_type, first)?;

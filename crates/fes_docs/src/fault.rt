@@ -1,3 +1,5 @@
+//! What is wrong first with the element of a filter.
+
 ghost use Rattle.std.specs.Prelude.{◌≡◌};
 ghost use Rattle.fes_docs.specs.Names.{refusal_of, geometry_fault};
 ghost use Rattle.fes_docs.specs.declared.fault.FilterDocFault.TheVariants.{Operator, Shape, Checked, Undeclared, OutOfMemory as NoMemory};

@@ -1,3 +1,5 @@
+//! The laws of reading and writing filters.
+
 ghost use Rattle.fes_docs.specs.Allowed.{ReadIsAllowed};
 ghost use Rattle.fes_docs.specs.RoundTrip.{ReadsBack};
 

@@ -7,6 +7,7 @@ ghost use Rattle.wfs_ends.specs.Read.{GivesBut};
 ghost use Rattle.fes_docs.specs.Like.{one_of, mark_in, mark_of, marks_of, only_marks, bad_marks, part_of, next_part, pattern_of, pattern_behind, like_of};
 ghost use Rattle.fes_docs.specs.declared.fault.FilterDocFault.TheVariants.{OutOfMemory};
 
+use crate::compare::case_of;
 use crate::element::{and_no_more, first_in, missing, named, no_others, plain, value_of};
 use crate::fault::{FilterDocFault, checked};
 use crate::sides::{property_at, suited};
@@ -92,7 +93,11 @@ fn marks_of(alloc: Global, element: &Element) -> Result<Marks, FilterDocFault>
 fn only_marks(alloc: Global, element: &Element) -> Result<(), FilterDocFault>
     ensures { GivesBut OutOfMemory (λ x. x) result (only_marks element.now) }
 {
-    no_others(alloc, element, &["wildCard", "singleChar", "escapeChar"])
+    no_others(
+        alloc,
+        element,
+        &["matchCase", "wildCard", "singleChar", "escapeChar"],
+    )
 }
 
 // ---- the pattern
@@ -169,6 +174,7 @@ pub(crate) fn like_of(
 ) -> Result<Filter, FilterDocFault>
     ensures { GivesBut OutOfMemory (λ x. x) result (like_of (option_copied of_type.entry) element.now) }
 {
+    case_of(alloc, element)?;
     let marks = marks_of(alloc, element)?;
     only_marks(alloc, element)?;
     let (first, rest) = first_in(alloc, element, element.children.items())?;

@@ -1,3 +1,5 @@
+//! The operators of filters by the names of their elements.
+
 ghost use Rattle.std.specs.Prelude.{◌≡◌};
 ghost use Rattle.wfs_ends.specs.Read.{GivesBut};
 ghost use Rattle.fes_docs.specs.Operators.{comparison_named, predicate_named, operator_named, operator_in};

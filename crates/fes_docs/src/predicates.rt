@@ -93,7 +93,7 @@ fn pattern_text(alloc: Global, parts: &[LikePart]) -> Mem<Text>
 {
     let mut line = String::new(alloc);
     add_parts(&mut line, parts)?;
-    Ok(Text::of_string(line))
+    Text::of_string(line)
 }
 
 fn mark_attributes(alloc: Global) -> Mem<Vec<Attribute>>

@@ -1,3 +1,5 @@
+//! Filters read from elements.
+
 ghost use Rattle.std.specs.Prelude.{◌≡◌, [], ◌∷◌, map, None, Some, IfOk};
 ghost use Rattle.std.specs.Option.{option_copied};
 ghost use Rattle.wfs_ends.specs.Read.{GivesBut, each};
@@ -271,16 +273,18 @@ fn filter_of(
 ///
 /// Each element is judged in this order, and the first fault is answered: its name; its listed attributes in the order
 /// above; other attributes in no namespace, of which the first by name is told; its children in document order; and then
-/// those that are missing. `matchCase` is judged before `matchAction`, and `false` on texts when the sides are known.
+/// those that are missing. The operators whose names begin with `PropertyIs` may have `matchCase`, which is judged before
+/// their other attributes: `true` changes nothing, and `false` is read where texts are compared for equality, which is
+/// judged when the sides are known.
 ///
 /// - `Operator`: an element that is none of the operators where one is expected; an attribute that is not listed, or a
-///   `matchCase` or `matchAction` that has none of its values.
+///   `matchAction` that has none of its values.
 /// - `Shape`: an element where it is not allowed, or one that is missing; also a missing `rid`, `wildCard`, `singleChar`
 ///   or `escapeChar`.
 /// - `Geometry`: what `gml_docs` says of an Envelope or a geometry.
 /// - `Checked`: `Unknown`, a property that the type has not; `Types`, a property or a literal of another kind than the
-///   operator or the property beside it asks for; `Choice`, `matchCase="false"` where texts are not compared for equality,
-///   or `wildCard`, `singleChar` and `escapeChar` that are not three different characters, or an escape at the end of a
+///   operator or the property beside it asks for; `Choice`, a `matchCase` that is neither `true` nor, where texts are compared
+///   for equality, `false`, or `wildCard`, `singleChar` and `escapeChar` that are not three different characters, or an escape at the end of a
 ///   pattern; `TooLarge`, the 1,001st operator.
 /// - `OutOfMemory`: there is no memory for the filter.
 pub fn read_filter(

@@ -1,3 +1,5 @@
+//! Filters written as elements.
+
 ghost use Rattle.std.specs.Prelude.{◌≡◌, map, None, Some, IfOk};
 ghost use Rattle.std.specs.Option.{option_copied};
 ghost use Rattle.fes_filter.specs.declared.filter.Filter.{out-Filter};

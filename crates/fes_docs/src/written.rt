@@ -37,7 +37,7 @@ pub(crate) fn three(alloc: Global, a: &str, b: &str, c: &str) -> Mem<Text>
 {
     let mut line = String::new(alloc);
     add_three(&mut line, a, b, c)?;
-    Ok(Text::of_string(line))
+    Text::of_string(line)
 }
 
 fn name_of(alloc: Global, space: &str, local: &str) -> Mem<QName>

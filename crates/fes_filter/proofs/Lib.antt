@@ -1,3 +1,4 @@
 pub mod Likes
 pub mod Parts
+pub mod Searched
 pub mod Verdicts

@@ -7,7 +7,7 @@ use Rattle.std.proofs.lemmas.Str.{length-encode, len_utf8_bounds}
 use Rattle.fes_filter.specs.declared.pattern.LikePart.{LikePart}
 use Rattle.fes_filter.specs.declared.pattern.LikePart.TheVariants.{Exactly, One, Many}
 use Rattle.fes_filter.specs.Like.{some_end, is_like}
-use Rattle.fes_filter.specs.LikeFront.{is_many, after_part, front_of, Left}
+use Rattle.fes_filter.specs.LikeFront.{is_many, after_part, front_of, Left, by_front}
 
 -- ---- ends of a text
 
@@ -52,18 +52,12 @@ place_of : (test : List ℕ → Bool) (c : ℕ) (cs : List ℕ) → (some_end te
 place_of test c cs more true e h = (0, e)
 place_of test c cs more false e h = further test c cs (more h)
 
-place : (test : List ℕ → Bool) (cs : List ℕ) → some_end test cs ≡ true → (k : ℕ) × (test (drop k cs) ≡ true)
+pub place : (test : List ℕ → Bool) (cs : List ℕ) → some_end test cs ≡ true → (k : ℕ) × (test (drop k cs) ≡ true)
 unfolding some_end
 place test [] h = (0, h)
 place test (c ∷ cs) h = place_of test c cs (place test cs) (test (c ∷ cs)) refl h
 
 -- ---- the parts before the first Many
-
--- what is left of both decides
-abbrev pub by_front : Option (Option Left) → Bool
-by_front None = false
-by_front (Some None) = true
-by_front (Some (Some left)) = some_end (is_like left.0) left.1
 
 exactly_by_front : (parts : List LikePart) (cs : List ℕ) → is_like parts cs ≡ by_front (front_of parts cs) → (b : Bool) → (b && is_like parts cs) ≡ by_front (option_and_then (front_of parts) (cond b (Some cs) None))
 exactly_by_front parts cs more true = more
@@ -79,7 +73,7 @@ like_by_front (One ∷ parts) [] = refl
 like_by_front (One ∷ parts) (c ∷ cs) = like_by_front parts cs
 like_by_front (Many ∷ parts) cs = refl
 
-and_right : (a b : Bool) → (a && b) ≡ true → b ≡ true
+pub and_right : (a b : Bool) → (a && b) ≡ true → b ≡ true
 and_right true b h = h
 and_right false b h = absurd cc
 

@@ -3,6 +3,7 @@ use Rattle.std.specs.Prelude.{ℕ, Bool, true, false, if◌then◌else◌, ◌==
 use Rattle.std.specs.Option.{option_and_then}
 use Rattle.fes_filter.specs.declared.pattern.LikePart.{LikePart}
 use Rattle.fes_filter.specs.declared.pattern.LikePart.TheVariants.{Exactly, One, Many}
+use Rattle.fes_filter.specs.Like.{some_end, is_like}
 use Rattle.fes_filter.specs.declared.like.Front.{Front}
 use Rattle.fes_filter.specs.declared.like.Front.TheVariants.{Unlike, Whole, Rest}
 
@@ -34,6 +35,12 @@ abbrev pub shown : Front → Option (Option Left)
 shown Unlike = None
 shown Whole = Some None
 shown (Rest parts text) = Some (Some (parts.now, chars text.now))
+
+-- whether an end of what is left is like the parts that are left
+abbrev pub by_front : Option (Option Left) → Bool
+by_front None = false
+by_front (Some None) = true
+by_front (Some (Some left)) = some_end (is_like left.0) left.1
 
 -- both together are shorter than that
 abbrev pub IsShorter : ℕ → Front → Type 0

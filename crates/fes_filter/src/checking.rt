@@ -1,3 +1,5 @@
+//! What is wrong first with a filter for a feature type.
+
 ghost use Rattle.std.specs.Prelude.{◌≡◌, map, flat_map, ◌∷◌, [], Ok};
 ghost use Rattle.std.specs.Option.{option_copied};
 ghost use Rattle.wfs_ends.specs.Read.{each};

@@ -35,7 +35,7 @@ fn stands(by: By, order: Option<Ordering>) -> bool
 fn folded_text(alloc: Global, text: &Text) -> Mem<Text>
     ensures { IfOk result (λ t. t ≡ encode_utf8_all (default_case_fold (chars text.now))) }
 {
-    Ok(Text::of_string(default_case_fold_str(alloc, text.as_str())?))
+    Text::of_string(default_case_fold_str(alloc, text.as_str())?)
 }
 
 /// How two values stand to each other without their case.

@@ -1,3 +1,5 @@
+//! Expressions: the sides of comparisons and the bounds of ranges.
+
 ghost use Rattle.std.specs.Prelude.{◌≡◌, IfOk};
 
 use feature_values::Value;

@@ -1,3 +1,5 @@
+//! Why a feature type does not allow a filter.
+
 /// Why a feature type does not allow a filter.
 #[derive(Clone, Copy, Debug, PartialEq, Eq)]
 pub enum FilterFault {

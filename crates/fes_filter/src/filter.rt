@@ -1,3 +1,5 @@
+//! Filters: operators with their parts.
+
 ghost use Rattle.std.specs.Prelude.{◌≡◌, IfOk};
 
 use crate::expr::{By, Expr};
@@ -109,11 +111,11 @@ impl Filter {
             }),
             Filter::Meets { property, shape } => Ok(Filter::Meets {
                 property: *property,
-                shape: shape.copy(alloc)?,
+                shape: shape.copy()?,
             }),
             Filter::Apart { property, shape } => Ok(Filter::Apart {
                 property: *property,
-                shape: shape.copy(alloc)?,
+                shape: shape.copy()?,
             }),
         }
     }

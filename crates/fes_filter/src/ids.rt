@@ -1,3 +1,5 @@
+//! Identifiers that a filter names.
+
 ghost use Rattle.std.specs.Prelude.{◌≡◌, IfOk};
 ghost use Rattle.std.specs.List.{list_any};
 ghost use Rattle.fes_filter.specs.Truth.{is_of};

@@ -1,24 +1,16 @@
 //! Texts that are like a pattern.
 
-ghost use Rattle.std.specs.Prelude.{◌≡◌, ◌<◌, ◌+◌, [], ◌∷◌, length, drop, chars, Some, MatchOption, option_map, IfSome};
+ghost use Rattle.std.specs.Prelude.{◌≡◌, ◌<◌, ◌+◌, [], ◌∷◌, length, drop, chars, Some, MatchOption, option_map, IfSome, false};
+ghost use Rattle.std.specs.List.{list_any};
 ghost use Rattle.std.specs.Option.{option_copied};
 ghost use Rattle.fes_filter.specs.Like.{is_like, some_end};
-ghost use Rattle.fes_filter.specs.LikeFront.{is_many, after_part, front_of, shown, IsShorter};
+ghost use Rattle.fes_filter.specs.LikeFront.{is_many, after_part, front_of, shown, by_front, IsShorter};
 ghost use Rattle.fes_filter.specs.Truth.{passes, is_text_like};
 
+use crate::letters::{behind, count, split_first};
 use crate::pattern::LikePart;
+use crate::places::{from_longest_run, has_many, is_many, longest_run};
 use feature_values::Value;
-
-/// The first character, and the text behind it.
-fn split_first(text: &str) -> Option<(char, &str)>
-    ensures { MatchOption result ((chars text.now ≡ []) × (text.now ≡ [])) (λ (c, rest). (chars text.now ≡ c ∷ chars rest.now) × (length rest.now < length text.now)) }
-{
-    let mut chars = text.chars();
-    match chars.next() {
-        Some(c) => Some((c, chars.as_str())),
-        None => None,
-    }
-}
 
 /// The text behind its first character, where the part stands for this one character.
 fn after_part(part: LikePart, text: &str) -> Option<&str>
@@ -41,12 +33,6 @@ enum Front<'a> {
     Whole,
     /// The parts behind the first `Many`, and the text that is left there.
     Rest(&'a [LikePart], &'a str),
-}
-
-fn is_many(part: LikePart) -> bool
-    ensures { result ≡ is_many part }
-{
-    matches!(part, LikePart::Many)
 }
 
 /// The parts behind one, and the text that is left there.
@@ -90,29 +76,65 @@ fn front_of<'a>(pattern: &'a [LikePart], text: &'a str) -> Front<'a>
     end_of(rest)
 }
 
-/// Whether some end of the text is like the pattern. The first place at which the parts up to the next `Many` stand for
-/// the characters there is as good as any later one, so it never goes back.
-fn has_end_like(pattern: &[LikePart], text: &str) -> bool
-    ensures { result ≡ some_end (is_like pattern.now) (chars text.now) }
+/// What is left behind the one place where the parts behind the last `Many` can stand: the end of the text.
+fn last_piece<'a>(parts: &'a [LikePart], text: &'a str) -> Front<'a>
+    requires { list_any is_many parts.now ≡ false }
+    ensures value { by_front (shown result) ≡ some_end (is_like parts.now) (chars text.now) }
+    ensures shorter { IsShorter (length parts.now + length text.now) result }
 {
-    let mut parts = pattern;
+    let length = count(text);
+    if length < parts.len() {
+        return Front::Unlike;
+    }
+    front_of(parts, behind(text, length - parts.len()))
+}
+
+/// What is left behind the first place where the parts up to the next `Many` stand for the characters there. The first
+/// place is as good as any later one, so nobody has to come back to it.
+fn next_piece<'a>(parts: &'a [LikePart], text: &'a str) -> Front<'a>
+    ensures value { by_front (shown result) ≡ some_end (is_like parts.now) (chars text.now) }
+    ensures shorter { IsShorter (length parts.now + length text.now) result }
+{
+    if !has_many(parts) {
+        return last_piece(parts, text);
+    }
+    let run = longest_run(parts);
     let mut rest = text;
     loop {
+        match from_longest_run(parts, run, rest) {
+            None => return Front::Unlike,
+            Some(left) => rest = left,
+        }
         match front_of(parts, rest) {
-            Front::Whole => return true,
-            Front::Rest(behind, left) => {
-                parts = behind;
-                rest = left;
-            }
+            Front::Whole => return Front::Whole,
+            Front::Rest(behind, left) => return Front::Rest(behind, left),
             Front::Unlike => match split_first(rest) {
-                None => return false,
+                None => return Front::Unlike,
                 Some((_, left)) => rest = left,
             },
         }
     }
 }
 
-/// Whether a text is like a pattern. It takes at most as many steps as the product of the two lengths, and no memory.
+/// Whether some end of the text is like the pattern, piece by piece.
+fn has_end_like(pattern: &[LikePart], text: &str) -> bool
+    ensures { result ≡ some_end (is_like pattern.now) (chars text.now) }
+{
+    let mut parts = pattern;
+    let mut rest = text;
+    loop {
+        match next_piece(parts, rest) {
+            Front::Unlike => return false,
+            Front::Whole => return true,
+            Front::Rest(behind, left) => {
+                parts = behind;
+                rest = left;
+            }
+        }
+    }
+}
+
+/// Whether a text is like a pattern. It takes no memory.
 fn is_like(pattern: &[LikePart], text: &str) -> bool
     ensures { result ≡ is_like pattern.now (chars text.now) }
 {

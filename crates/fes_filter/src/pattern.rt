@@ -1,3 +1,5 @@
+//! Patterns of texts.
+
 ghost use Rattle.std.specs.Prelude.{◌≡◌, IfOk};
 
 use std::alloc::Global;

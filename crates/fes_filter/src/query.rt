@@ -1,3 +1,5 @@
+//! Queries: a type, a filter and an order.
+
 ghost use Rattle.std.specs.Prelude.{◌≡◌, IfOk};
 
 use crate::filter::Filter;

@@ -1,3 +1,5 @@
+//! The count of how often a filter was put to a feature.
+
 ghost use Rattle.std.specs.Prelude.{◌≡◌, ◌+◌, ◌<◌};
 
 use std::marker::Model;

@@ -5,7 +5,7 @@ use super::*;
 use feature_values::{Feature, Rid, Value};
 use geom_core::{Box2, Geometry, Line, Polygon, Pos, Ring};
 use std::alloc::Global;
-use wfs_ends::{Boxed, List, Mem, Text};
+use wfs_ends::{Boxed, List, Mem, Shared, Text};
 
 mod checks;
 mod copies;
@@ -163,20 +163,20 @@ fn holes(alloc: Global) -> Mem<Vec<Ring>> {
     Ok(holes)
 }
 
-fn over(shell: Ring, holes: Vec<Ring>) -> Value {
+fn over(alloc: Global, shell: Ring, holes: Vec<Ring>) -> Mem<Value> {
     match Polygon::new(shell, holes) {
-        Ok(area) => Value::Shape(Geometry::Over(area)),
-        Err(_) => Value::Null,
+        Ok(area) => Ok(Value::Shape(Geometry::Over(Shared::new(alloc, area)?))),
+        Err(_) => Ok(Value::Null),
     }
 }
 
 // The square from 0 to 10 with a hole from 2 to 4.
 fn field(alloc: Global) -> Mem<Value> {
     let holes = holes(alloc)?;
-    Ok(match square(alloc, 0, 10)? {
-        Some(shell) => over(shell, holes),
-        None => Value::Null,
-    })
+    match square(alloc, 0, 10)? {
+        Some(shell) => over(alloc, shell, holes),
+        None => Ok(Value::Null),
+    }
 }
 
 // A way along the far edge.
@@ -185,7 +185,7 @@ fn way(alloc: Global) -> Mem<Value> {
     places.push(at((FAR, 0)))?;
     places.push(at((FAR, FAR)))?;
     Ok(match Line::new(places) {
-        Ok(line) => Value::Shape(Geometry::Along(line)),
+        Ok(line) => Value::Shape(Geometry::Along(Shared::new(alloc, line)?)),
         Err(_) => Value::Null,
     })
 }

@@ -1,3 +1,5 @@
+//! When a filter is true of a feature.
+
 ghost use Rattle.std.specs.Prelude.{◌≡◌, ◌+◌, IfOk, OnErr, IsTrue, map};
 ghost use Rattle.std.specs.List.{list_all, list_any};
 ghost use Rattle.fes_filter.specs.Truth.{truth_of, folds};

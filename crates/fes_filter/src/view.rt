@@ -1,3 +1,5 @@
+//! What filters are put to: features in their default order.
+
 ghost use Rattle.std.specs.Prelude.{◌≡◌, List, IfOk};
 ghost use Rattle.std.specs.Option.{option_copied};
 ghost use Rattle.feature_values.specs.declared.feature.Feature.{Feature};

@@ -3,18 +3,35 @@
 use super::*;
 use std::test::Fail;
 
-static SENT: [(&str, &str); 14] = [
+static SENT: [(&str, &str); 18] = [
     (
         "PropertyIsEqualTo(|ValueReference=m:label|Literal=A|)",
-        "Compare { by: Equal, left: Property(0), right: Literal(Words(Text { text: \"A\" })), fold: false }",
+        "Compare { by: Equal, left: Property(0), right: Literal(Words(Text { shared: \"A\" })), fold: false }",
     ),
     (
         "PropertyIsEqualTo(|@matchCase=true|@matchAction=Any|ValueReference=label|Literal=A|)",
-        "Compare { by: Equal, left: Property(0), right: Literal(Words(Text { text: \"A\" })), fold: false }",
+        "Compare { by: Equal, left: Property(0), right: Literal(Words(Text { shared: \"A\" })), fold: false }",
+    ),
+    // as GDAL sends LIKE
+    (
+        "PropertyIsLike(|@wildCard=*|@singleChar=_|@escapeChar=!|@matchCase=true|ValueReference=m:label|Literal=A*|)",
+        "Like { property: 0, pattern: List { items: [Exactly('A'), Many] } }",
+    ),
+    (
+        "PropertyIsNull(|@matchCase=true|ValueReference=m:size|)",
+        "IsNull(1)",
+    ),
+    (
+        "PropertyIsBetween(|@matchCase=true|ValueReference=m:size|LowerBoundary(|Literal=1|)|UpperBoundary(|Literal=2|)|)",
+        "Between { property: 1, low: Literal(Whole(1)), high: Literal(Whole(2)) }",
+    ),
+    (
+        "PropertyIsLessThan(|@matchCase=true|ValueReference=m:size|Literal=2|)",
+        "Compare { by: Less, left: Property(1), right: Literal(Whole(2)), fold: false }",
     ),
     (
         "PropertyIsNotEqualTo(|@matchCase=false|@matchAction=One|Literal=long text|ValueReference=m:label|)",
-        "Compare { by: NotEqual, left: Literal(Words(Text { text: \"long text\" })), right: Property(0), fold: true }",
+        "Compare { by: NotEqual, left: Literal(Words(Text { shared: \"long text\" })), right: Property(0), fold: true }",
     ),
     (
         "PropertyIsGreaterThanOrEqualTo(|ValueReference=m:size|Literal= -7 |)",
@@ -74,7 +91,7 @@ static MORE: [(&str, &str); 12] = [
     ),
     (
         "PropertyIsLessThanOrEqualTo(|ValueReference=:label|Literal=|)",
-        "Compare { by: LessEqual, left: Property(0), right: Literal(Words(Text { text: \"\" })), fold: false }",
+        "Compare { by: LessEqual, left: Property(0), right: Literal(Words(Text { shared: \"\" })), fold: false }",
     ),
     (
         "PropertyIsGreaterThan(|@x:id=1|ValueReference=a:size|Literal=+5|)",
@@ -86,7 +103,7 @@ static MORE: [(&str, &str); 12] = [
     ),
     (
         "PropertyIsEqualTo(|ValueReference=label|Literal=${id}|)",
-        "Compare { by: Equal, left: Property(0), right: Literal(Words(Text { text: \"${id}\" })), fold: false }",
+        "Compare { by: Equal, left: Property(0), right: Literal(Words(Text { shared: \"${id}\" })), fold: false }",
     ),
     ("ResourceId(|@rid=${id}|)", "Ids(List { items: [Nobody] })"),
     ("ResourceId(|@rid=|)", "Ids(List { items: [Nobody] })"),
@@ -104,7 +121,7 @@ static MORE: [(&str, &str); 12] = [
     ),
     (
         "PropertyIsBetween(|ValueReference=label|LowerBoundary(|Literal=b|)|UpperBoundary(|Literal=a|)|)",
-        "Between { property: 0, low: Literal(Words(Text { text: \"b\" })), high: Literal(Words(Text { text: \"a\" })) }",
+        "Between { property: 0, low: Literal(Words(Text { shared: \"b\" })), high: Literal(Words(Text { shared: \"a\" })) }",
     ),
     (
         "Not(|Not(|ResourceId(|@rid=Mark.18446744073709551615|)|)|)",
@@ -138,7 +155,7 @@ static STORED: [(&str, &str); 8] = [
     ),
     (
         "PropertyIsEqualTo(|ValueReference=label|Literal= ${id}|)",
-        "Compare { by: Equal, left: Property(0), right: Literal(Words(Text { text: \" ${id}\" })), fold: false }",
+        "Compare { by: Equal, left: Property(0), right: Literal(Words(Text { shared: \" ${id}\" })), fold: false }",
     ),
     (
         "PropertyIsLike(|@wildCard=*|@singleChar=.|@escapeChar=!|ValueReference=label|Literal=$|)",

@@ -78,7 +78,7 @@ fn misplaced_and_missing_elements_are_named(rt: HostRuntime) {
     assert_eq!(rt; first_misread(rt.alloc(), None, &MISPLACED), None);
 }
 
-static REFUSED: [(&str, &str); 28] = [
+static REFUSED: [(&str, &str); 39] = [
     ("PropertyIsNil(|ValueReference=size|)", "12 PropertyIsNil"),
     ("Function", "12 Function"),
     ("x:And", "12 And"),
@@ -118,9 +118,32 @@ static REFUSED: [(&str, &str); 28] = [
         "11 size",
     ),
     (
-        "PropertyIsNull(|@matchCase=true|ValueReference=size|)",
+        "PropertyIsNull(|@matchCase=false|ValueReference=none|)",
         "12 matchCase",
     ),
+    ("PropertyIsNull(|@b=1|@a=1|@matchCase=no|)", "12 matchCase"),
+    ("PropertyIsNull(|@b=1|@a=1|@matchCase=true|)", "12 a"),
+    (
+        "PropertyIsBetween(|@a=1|@matchCase=false|ValueReference=none|)",
+        "12 matchCase",
+    ),
+    (
+        "PropertyIsBetween(|@matchCase=true|@matchAction=Any|)",
+        "12 matchAction",
+    ),
+    (
+        "PropertyIsLike(|@matchCase=false|ValueReference=none|)",
+        "12 matchCase",
+    ),
+    (
+        "PropertyIsLike(|@matchCase=|@wildCard=*|@singleChar=*|@escapeChar=!|)",
+        "12 matchCase",
+    ),
+    ("And(|@matchCase=true|)", "12 matchCase"),
+    ("Not(|@matchCase=true|)", "12 matchCase"),
+    ("ResourceId(|@rid=Mark.1|@matchCase=true|)", "12 matchCase"),
+    ("BBOX(|@matchCase=true|)", "12 matchCase"),
+    ("Intersects(|@matchCase=true|)", "12 matchCase"),
     (
         "PropertyIsEqualTo(|ValueReference=m:nope|Literal=1|)",
         "11 m:nope",

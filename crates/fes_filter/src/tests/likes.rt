@@ -28,7 +28,7 @@ fn parts(alloc: Global, text: &str) -> Mem<Vec<LikePart>> {
     Ok(parts)
 }
 
-static LIKES: [(&str, &str, bool); 18] = [
+static LIKES: [(&str, &str, bool); 44] = [
     ("A!*.", "A*b", true),
     ("A!*.", "Ab", false),
     ("A!*.", "A*", false),
@@ -47,6 +47,36 @@ static LIKES: [(&str, &str, bool); 18] = [
     ("*a.c", "abcadc", true),
     ("*ab*ba*", "aba", false),
     ("*ab*ba*", "abba", true),
+    ("*", "ab", true),
+    ("ab", "a", false),
+    ("*.", "ß", true),
+    ("*..", "a", false),
+    ("..*", "a", false),
+    ("*...*", "ab", false),
+    ("*...*", "abc", true),
+    ("*a*", "b", false),
+    ("*ab", "abab", true),
+    ("*ab", "aba", false),
+    ("*aab*", "aaab", true),
+    ("*aab*", "aaa", false),
+    ("*.a.bcd*", "abxbcd", false),
+    ("*.a.bcd*", "xaxabbcd", true),
+    ("*a.*.b*", "axxb", true),
+    ("*a.*.b*", "axb", false),
+    ("*ße*", "Straße", true),
+    ("*s.e*", "Straße", false),
+    ("*.ße", "aße", true),
+    ("*.ße", "ße", false),
+    ("*ä*ä", "äbä", true),
+    ("*ä*ä", "ä", false),
+    ("*\u{10ffff}.*", "a\u{10ffff}b", true),
+    ("*aaaaaaaaaaaaaaaaab*", "aaaaaaaaaaaaaaaaaaaab", true),
+    ("*aaaaaaaaaaaaaaaaab*", "aaaaaaaaaaaaaaaab", false),
+    (
+        "*.ääääääääääääääääää*",
+        "aäääääääääääääääääbäääääääääääääääääää",
+        true,
+    ),
 ];
 
 fn pattern(alloc: Global, text: &str) -> Mem<Filter> {

@@ -1,7 +1,7 @@
 use Rattle.std.proofs.Common.{◌≡◌, ◌+◌, length, chars}
-use Rattle.fes_filter.specs.Like.{is_like, some_end}
 use denote.Text.{Utf8}
 use denote.Shadow.{shadow}
+use Rattle.fes_filter.specs.Like.{is_like, some_end}
 use Rattle.fes_filter.proofs.like.has_end_like.Given as goal
 
 abbrev pub invariant-loop-behind : goal.invariant-loop-behind

@@ -1,5 +1,6 @@
 use Rattle.std.proofs.Common.{sym, ◌∙◌, ap}
-use Rattle.fes_filter.proofs.Likes.{like_by_front, by_front}
+use Rattle.fes_filter.specs.LikeFront.{by_front}
+use Rattle.fes_filter.proofs.Likes.{like_by_front}
 use Rattle.fes_filter.proofs.like.is_like.Goals as goal
 
 pub returns-in-Unlike : goal.returns-in-Unlike

@@ -4,7 +4,7 @@ use Rattle.fes_filter.proofs.Likes.{encode_nonempty}
 use Rattle.std.proofs.lemmas.List.{nil_from_length}
 use Rattle.std.specs.Str.{chars}
 use Rattle.std.specs.Prelude.{encode_utf8}
-use Rattle.fes_filter.proofs.like.split_first.Goals as goal
+use Rattle.fes_filter.proofs.letters.split_first.Goals as goal
 
 pub returns-in-Some : goal.returns-in-Some
 returns-in-Some c =
