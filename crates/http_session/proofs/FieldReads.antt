@@ -15,7 +15,7 @@ use Rattle.httparse.specs.Spans.{header_bytes}
 use Rattle.httparse.specs.declared.spans.HeaderSpan.{HeaderSpan}
 use Rattle.http_session.proofs.Cuts.{all_of_cut, not_all_of_cut}
 use Rattle.http_session.specs.Cuts.{StartsOutside, Cut, is_in_part}
-use Rattle.http_session.specs.Fields.{NameValue, same_word, values_of, Found, no_value, equal_values, other_values, found_of, found_more, found_field, is_close_field, lists_close, fields_at, is_padded, is_word_then_blank, parts_of, onto_first, after_first, capped}
+use Rattle.http_session.specs.Fields.{NameValue, same_word, values_of, Found, no_value, equal_values, other_values, found_of, found_more, found_field, is_field_with, lists_close, fields_at, is_padded, is_word_then_blank, parts_of, onto_first, after_first, capped}
 
 pub same_word_is : (r : Bool) (a b : List ℕ) → (IsTrue r ↔ (map to_ascii_lowercase a ≡ map to_ascii_lowercase b)) → r ≡ same_word a b
 unfolding same_word
@@ -76,23 +76,23 @@ found_next name bytes headers i d lt =
     by true vs v = found_push vs v
     by false vs v = ap found_of (append-nil vs)
 
-pub close_any : (fields : List NameValue) → list_any lists_close (values_of (codes "connection") fields) ≡ list_any is_close_field fields
+pub any_field : (name : List ℕ) (test : List ℕ → Bool) (fields : List NameValue) → list_any test (values_of name fields) ≡ list_any (is_field_with name test) fields
 unfolding values_of
-close_any [] = refl
-close_any (f ∷ fields) = by (same_word f.0 (codes "connection")) (filter (λ (g : NameValue). same_word g.0 (codes "connection")) fields) (close_any fields)
+any_field name test [] = refl
+any_field name test (f ∷ fields) = by (same_word f.0 name) (filter (λ (g : NameValue). same_word g.0 name) fields) (any_field name test fields)
   where
-    by : (t : Bool) (rest : List NameValue) → list_any lists_close (map (λ (g : NameValue). g.1) rest) ≡ list_any is_close_field fields
-        → list_any lists_close (map (λ (g : NameValue). g.1) (if t then f ∷ rest else rest)) ≡ ((t && lists_close f.1) || list_any is_close_field fields)
-    by true rest e = ap (λ r. lists_close f.1 || r) e
+    by : (t : Bool) (rest : List NameValue) → list_any test (map (λ (g : NameValue). g.1) rest) ≡ list_any (is_field_with name test) fields
+        → list_any test (map (λ (g : NameValue). g.1) (if t then f ∷ rest else rest)) ≡ ((t && test f.1) || list_any (is_field_with name test) fields)
+    by true rest e = ap (λ r. test f.1 || r) e
     by false rest e = e
 
-pub close_next : (bytes : List ℕ) (headers : List HeaderSpan) (i : ℕ) (d : HeaderSpan) → i < length headers
-    → list_any is_close_field (fields_at bytes (take (i + 1) headers)) ≡ (list_any is_close_field (fields_at bytes (take i headers)) || is_close_field (header_bytes bytes (get_or headers i d)))
-close_next bytes headers i d lt =
-    ap (λ hs. list_any is_close_field (fields_at bytes hs)) (take_more headers i d lt)
-    ∙ ap (λ fs. list_any is_close_field fs) (map-append (header_bytes bytes) (take i headers) (get_or headers i d ∷ []))
-    ∙ list_any-append is_close_field (fields_at bytes (take i headers)) (header_bytes bytes (get_or headers i d) ∷ [])
-    ∙ by (list_any is_close_field (fields_at bytes (take i headers))) (is_close_field (header_bytes bytes (get_or headers i d)))
+pub field_next : (p : NameValue → Bool) (bytes : List ℕ) (headers : List HeaderSpan) (i : ℕ) (d : HeaderSpan) → i < length headers
+    → list_any p (fields_at bytes (take (i + 1) headers)) ≡ (list_any p (fields_at bytes (take i headers)) || p (header_bytes bytes (get_or headers i d)))
+field_next p bytes headers i d lt =
+    ap (λ hs. list_any p (fields_at bytes hs)) (take_more headers i d lt)
+    ∙ ap (λ fs. list_any p fs) (map-append (header_bytes bytes) (take i headers) (get_or headers i d ∷ []))
+    ∙ list_any-append p (fields_at bytes (take i headers)) (header_bytes bytes (get_or headers i d) ∷ [])
+    ∙ by (list_any p (fields_at bytes (take i headers))) (p (header_bytes bytes (get_or headers i d)))
   where
     by : (t u : Bool) → (t || (u || false)) ≡ (t || u)
     by true u = refl
@@ -203,13 +203,15 @@ any_map_at p f (x ∷ xs) (suc i) d lt e = by (p (f x)) (any_map_at p f xs i d (
     by true h = refl
     by false h = h
 
-pub close_found : (bytes : List ℕ) (headers : List HeaderSpan) (i : ℕ) (d : HeaderSpan) → i < length headers → true ≡ is_close_field (header_bytes bytes (get_or headers i d))
-    → true ≡ list_any lists_close (values_of (codes "connection") (fields_at bytes headers))
-close_found bytes headers i d lt e = sym (close_any (fields_at bytes headers) ∙ any_map_at is_close_field (header_bytes bytes) headers i d lt (sym e))
+pub field_found : (name : List ℕ) (test : List ℕ → Bool) (bytes : List ℕ) (headers : List HeaderSpan) (i : ℕ) (d : HeaderSpan) → i < length headers
+    → true ≡ is_field_with name test (header_bytes bytes (get_or headers i d)) → true ≡ list_any test (values_of name (fields_at bytes headers))
+field_found name test bytes headers i d lt e =
+    sym (any_field name test (fields_at bytes headers) ∙ any_map_at (is_field_with name test) (header_bytes bytes) headers i d lt (sym e))
 
-pub close_nowhere : (bytes : List ℕ) (headers : List HeaderSpan) (i : ℕ) → length headers ≤ i → list_any is_close_field (fields_at bytes (take i headers)) ≡ false
-    → false ≡ list_any lists_close (values_of (codes "connection") (fields_at bytes headers))
-close_nowhere bytes headers i le e = sym (close_any (fields_at bytes headers) ∙ subst (λ hs. list_any is_close_field (fields_at bytes hs) ≡ false) (take_all i headers le) e)
+pub field_nowhere : (name : List ℕ) (test : List ℕ → Bool) (bytes : List ℕ) (headers : List HeaderSpan) (i : ℕ) → length headers ≤ i
+    → list_any (is_field_with name test) (fields_at bytes (take i headers)) ≡ false → false ≡ list_any test (values_of name (fields_at bytes headers))
+field_nowhere name test bytes headers i le e =
+    sym (any_field name test (fields_at bytes headers) ∙ subst (λ hs. list_any (is_field_with name test) (fields_at bytes hs) ≡ false) (take_all i headers le) e)
 
 first_part : (bytes part tail : List ℕ) → Cut is_in_part bytes part tail → (ps : List (List ℕ)) × (parts_of bytes ≡ part ∷ ps)
 first_part bytes part [] cut = ([], last_part bytes part [] cut refl)

@@ -5,6 +5,7 @@ use Rattle.std.proofs.lemmas.List.{take_all, take_at, length-append}
 use Rattle.std.proofs.Math.Seq.{take-append-add}
 use Rattle.wfs_ends.specs.Ends.{Shown, Rose}
 use Rattle.http_session.specs.declared.message.Ending.TheVariants as ending
+use Rattle.httparse.specs.Grammar.{HasNoRequest}
 use Rattle.http_session.specs.Heads.{IsBad, IsUndecided, EndsWithoutHead, head_limit}
 use Rattle.http_session.specs.Reading.{after_buffer, Moved, HeadAt, IsHeadFull, IsHeadEnd, IsHeadStopped, IsHeadRead}
 use Rattle.httparse.specs.declared.spans.HeaderSpan.{HeaderSpan}
@@ -62,5 +63,5 @@ bad_read a b left e le bad = ahead_of (λ k. EndsWithoutHead k ending.BadHead) b
 
 pub stopped_read : (r : HeadRead) (a b : List ℕ) (headers : List HeaderSpan) (before after : Shown) → a ≡ b → length b ≤ head_limit → Rose before.failed_takes after.failed_takes → IsHeadStopped r a headers → IsHeadRead r b headers before after
 stopped_read (read.Head spans) a b headers before after e le rose h = subst (λ (k : List ℕ). HeadAt k headers spans) e h
-stopped_read (read.Ended e') a b headers before after e le rose h = rw h.0 (bad_read a b after.left e le h.1)
-stopped_read read.Fault a b headers before after e le rose h = (subst IsUndecided e h.0, subst (λ (k : List ℕ). length k < head_limit) e h.1, rose)
+stopped_read (read.Ended e') a b headers before after e le rose h = absurd h
+stopped_read read.Fault a b headers before after e le rose h = (subst HasNoRequest e h.0, subst (λ (k : List ℕ). length k < head_limit) e h.1, rose)

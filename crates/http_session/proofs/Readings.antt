@@ -1,9 +1,9 @@
 -- What the reader's steps come to.
-use Rattle.std.proofs.Common.{◌≡◌, inl, inr, ℕ, ◌<◌, ◌≤◌, Bool, true, false, List, [], ◌++◌, length, drop, refl, sym, ap, subst, ◌∙◌, arith, append-nil, Option, Some, None}
+use Rattle.std.proofs.Common.{◌≡◌, inl, inr, ℕ, ◌<◌, ◌≤◌, Bool, true, false, List, ◌++◌, length, drop, refl, sym, ap, subst, ◌∙◌, arith, Option, Some, None}
 use Rattle.std.specs.Prelude.{Ok, Err, IfSome}
-use Rattle.wfs_ends.specs.Ends.{Shown, Rose, AllGrow, KeepsGiven, GivesAll, given_more}
-use Rattle.wfs_ends.proofs.Given.{all_grow, keeps_none}
-use Rattle.httparse.specs.Grammar.{print_request, ReadsRequest}
+use Rattle.wfs_ends.specs.Ends.{Given, Shown, Rose, AllGrow, KeepsGiven, GivesAll, given_more}
+use Rattle.wfs_ends.proofs.Given.{given_nil, all_grow, keeps_none}
+use Rattle.httparse.specs.Grammar.{print_request, ReadsRequest, HasNoRequest}
 use Rattle.httparse.proofs.GrammarLemmas.{ReadsRequest-append}
 use Rattle.httparse.specs.declared.spans.HeaderSpan.{HeaderSpan}
 use Rattle.httparse.specs.declared.spans.RequestSpans.{RequestSpans}
@@ -91,12 +91,8 @@ body_ended start e a b b' s t is h = record {
 
 -- ---- what is written
 
-given_none : (o : Option (List ℕ)) → o ≡ given_more o []
-given_none None = refl
-given_none (Some g) = ap Some (sym (append-nil g))
-
 pub asked_not : (due : Bool) (s : Shown) → due ≡ false → IsAsked due false s s
-asked_not due s is = rw is (record { given = given_none s.given; keeps = keeps_none s })
+asked_not due s is = rw is (record { given = given_nil s.given; keeps = keeps_none s })
 
 frame_due : (method target : List ℕ) (plan : Plan) (found : BodyFound) → is_due (framed method target plan found) ≡ plan.due
 frame_due method target plan (content found rest) = refl
@@ -142,7 +138,7 @@ breaks_by plan next.WriteFault b s m t e fault memory read = absurd (read refl)
 breaks_by plan next.OutOfMemory b s m t e fault memory read = (subst (λ left. Reached (after_buffer b left) t) e (memory refl), λ yes. sym yes)
 
 stays_by : (text : List ℕ) (s m t : Shown) → GivesAll s text m → KeepsGiven m t → Stays s t
-stays_by text s m t g k = record { takes = omega (arith, g.keeps.takes, k.takes); passed = subst (λ (p : List (Option (List ℕ))). AllGrow s.passed p) (sym k.passed) g.keeps.passed; puts = omega (arith, g.keeps.puts, k.puts); place = k.place ∙ g.keeps.place }
+stays_by text s m t g k = record { takes = omega (arith, g.keeps.takes, k.takes); passed = subst (λ (p : List Given). AllGrow s.passed p) (sym k.passed) g.keeps.passed; puts = omega (arith, g.keeps.puts, k.puts); place = k.place ∙ g.keeps.place }
 
 pub rest_read : (start : Start) (a : Next) (b b' : List ℕ) (s m t : Shown) → IsAsked start.plan.due false s m → IsBodyNext start a b m b' t → KeepsGiven m t → ReadsRest start b s a b' t
 rest_read start a b b' s m t g n k = record {
@@ -159,12 +155,12 @@ stays_same : (s : Shown) → Stays s s
 stays_same s = record { takes = omega arith; passed = all_grow s.passed; puts = omega arith; place = refl }
 
 written_none : (e : Ending) (a : Next) (s : Shown) → a ≡ next_of e → Written false a s s
-written_none ending.End a s is = rw is (given_none s.given)
-written_none ending.Cut a s is = rw is (given_none s.given)
-written_none ending.BadHead a s is = rw is (given_none s.given)
-written_none ending.TooLarge a s is = rw is (given_none s.given)
-written_none ending.NoLength a s is = rw is (given_none s.given)
-written_none ending.Coding a s is = rw is (given_none s.given)
+written_none ending.End a s is = rw is (given_nil s.given)
+written_none ending.Cut a s is = rw is (given_nil s.given)
+written_none ending.BadHead a s is = rw is (given_nil s.given)
+written_none ending.TooLarge a s is = rw is (given_nil s.given)
+written_none ending.NoLength a s is = rw is (given_nil s.given)
+written_none ending.Coding a s is = rw is (given_nil s.given)
 
 breaks_none : (due : Bool) (e : Ending) (a : Next) (o : Option (List ℕ)) (t : Shown) → a ≡ next_of e → Breaks Awaits HasPlan due a o t
 breaks_none due ending.End a o t is = rw is tt
@@ -178,22 +174,14 @@ not_due : (P : List ℕ → Frame → Type 0) (o : Option (List ℕ)) → IfSome
 not_due P None = tt
 not_due P (Some bytes) = λ frame is yes. absurd cc
 
--- bytes that decide nothing end within a head, or between two messages
-undecided : (bytes : List ℕ) → IsUndecided bytes → length bytes < head_limit → Awaits bytes false
-undecided bytes none short = by (list_all is_line_byte bytes) refl
-  where
-    by : (t : Bool) → list_all is_line_byte bytes ≡ t → Awaits bytes false
-    by true e = inl (no_head ending.End, (none, short, e), refl)
-    by false e = inr (no_head ending.Cut, (none, short, e), refl)
-
 -- the link failed within a head
-pub head_failed : (b c : List ℕ) (s t : Shown) → Moved b s c t → IsUndecided c → length c < head_limit → Rose s.failed_takes t.failed_takes → Reads b s next.ReadFault c t
+pub head_failed : (b c : List ℕ) (s t : Shown) → Moved b s c t → HasNoRequest c → length c < head_limit → Rose s.failed_takes t.failed_takes → Reads b s next.ReadFault c t
 head_failed b c s t m none short rose = record {
   due = false;
   answers = not_due IsNext (ahead b s);
-  written = (m.keeps.given ∙ given_none s.given, rose);
-  breaks = (record { taken = c; parts = sym m.same }, undecided c none short);
-  stays = record { takes = m.keeps.takes; passed = subst (λ (p : List (Option (List ℕ))). AllGrow s.passed p) (sym m.keeps.passed) (all_grow s.passed); puts = let k = m.keeps.puts in omega (arith, k); place = m.keeps.place };
+  written = (m.keeps.given ∙ given_nil s.given, rose);
+  breaks = (record { taken = c; parts = sym m.same }, inl ((none, short), refl));
+  stays = record { takes = m.keeps.takes; passed = subst (λ (p : List Given). AllGrow s.passed p) (sym m.keeps.passed) (all_grow s.passed); puts = let k = m.keeps.puts in omega (arith, k); place = m.keeps.place };
 }
 
 -- no memory for what the head says
@@ -201,7 +189,7 @@ pub head_memory : (b : List ℕ) (s : Shown) → Reads b s next.OutOfMemory b s
 head_memory b s = record {
   due = false;
   answers = not_due IsNext (ahead b s);
-  written = given_none s.given;
+  written = given_nil s.given;
   breaks = (record { taken = b; parts = refl }, λ yes. absurd cc);
   stays = stays_same s;
 }
@@ -308,7 +296,7 @@ reads_moved a b c b' s m t moved r = record {
   answers = subst (λ o. IfSome o (λ bytes. Answers (IsNext bytes) r.due a (ahead b' t))) moved.same r.answers;
   written = written_moved r.due a s m t moved.keeps r.written;
   breaks = subst (λ o. Breaks Awaits HasPlan r.due a o t) moved.same r.breaks;
-  stays = record { takes = omega (arith, moved.keeps.takes, r.stays.takes); passed = subst (λ (p : List (Option (List ℕ))). AllGrow p t.passed) moved.keeps.passed r.stays.passed; puts = omega (arith, moved.keeps.puts, r.stays.puts); place = r.stays.place ∙ moved.keeps.place };
+  stays = record { takes = omega (arith, moved.keeps.takes, r.stays.takes); passed = subst (λ (p : List Given). AllGrow p t.passed) moved.keeps.passed r.stays.passed; puts = omega (arith, moved.keeps.puts, r.stays.puts); place = r.stays.place ∙ moved.keeps.place };
 }
 
 -- ---- a link's source and its sink are one

@@ -1,19 +1,19 @@
 -- What the reader answers of the bytes that are still to be read.
-use Rattle.std.specs.Prelude.{ℕ, ◌≡◌, ◌≤◌, ◌⊎◌, List, [], ◌++◌, Bool, true, false, if◌then◌else◌, Option, Some, IfSome, codes, Ok, Err}
+use Rattle.std.specs.Prelude.{ℕ, ◌≡◌, ◌<◌, ◌≤◌, ◌⊎◌, List, [], ◌++◌, length, Bool, true, false, if◌then◌else◌, Option, Some, IfSome, codes, Ok, Err}
 use Rattle.wfs_ends.specs.Ends.{Shown, Rose, AllGrow, GivesAll, GivesFront, given_more}
 use Rattle.http_session.specs.declared.message.Ending.{Ending}
 use Rattle.http_session.specs.declared.message.Ending.TheVariants as ending
 use Rattle.http_session.specs.declared.message.Next.{Next}
 use Rattle.http_session.specs.declared.message.Next.TheVariants as next
 use Rattle.http_session.specs.Frames.{Frame, message, ended, is_due, no_content, IsBody, HasBody, IsNext, Sent, Frames}
-use Rattle.http_session.specs.Heads.{head, IsHead}
+use Rattle.http_session.specs.Heads.{head, head_limit, IsHead}
 use Rattle.http_session.specs.Reading.{ahead, Reached, IsFault}
 use Rattle.http_session.specs.Fields.{judged}
 use Rattle.http_session.specs.declared.plan.Plan.{Plan}
 use Rattle.http_session.specs.declared.start.Start.{Start}
 use Rattle.http_session.specs.declared.start.StartRead.{StartRead}
 use Rattle.http_session.specs.declared.start.StartRead.TheVariants as startread
-use Rattle.httparse.specs.Grammar.{RequestHead}
+use Rattle.httparse.specs.Grammar.{RequestHead, HasNoRequest}
 use Rattle.httparse.specs.Spans.{IsRequestAt}
 use Rattle.httparse.specs.declared.spans.HeaderSpan.{HeaderSpan}
 use Rattle.httparse.specs.declared.spans.RequestSpans.{RequestSpans}
@@ -69,9 +69,13 @@ Written due next.OutOfMemory before after = after.given ≡ given_more before.gi
 abbrev pub HasPlan : List ℕ → Bool → Type 0
 HasPlan bytes due = (h : RequestHead) × (rest : List ℕ) × IsHead bytes (head h rest) × (plan : Plan) × (judged h ≡ Ok plan) × (due ≡ plan.due)
 
--- if the input ended here, it would end between two messages or within one
+-- the bytes hold no whole head, whether or not one can still come of them
+abbrev pub AwaitsHead : List ℕ → Type 0
+AwaitsHead bytes = HasNoRequest bytes × (length bytes < head_limit)
+
+-- The bytes hold no whole message: no head, so that no line is due; or a head, and the input would end within its body.
 abbrev pub Awaits : List ℕ → Bool → Type 0
-Awaits bytes due = IsNext bytes (ended ending.End due) ⊎ IsNext bytes (ended ending.Cut due)
+Awaits bytes due = (AwaitsHead bytes × (due ≡ false)) ⊎ IsNext bytes (ended ending.Cut due)
 
 -- What was taken by a fault, and by want of memory, stands in front of what the link has left. It says whether the line
 -- was to be written: at a fault just that was done, and at want of memory no more. At a read fault it holds no whole

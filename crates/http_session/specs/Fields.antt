@@ -103,9 +103,13 @@ abbrev pub after_length : Result (Option ℕ) Ending → List ℕ → List NameV
 after_length (Err e) method fields = Err e
 after_length (Ok stated) method fields = if is_coded fields then Err ending.Coding else body_of (is_chunked fields) (bytes_eq method (codes "POST")) stated
 
--- the sender waits for the line 100 Continue: a body is announced by HTTP/1.1, with Expect: 100-continue
+-- the value of an Expect field by which its sender waits
+abbrev pub asks_to_wait : List ℕ → Bool
+asks_to_wait value = same_word value (codes "100-continue")
+
+-- the sender waits for the line 100 Continue: a body is announced by HTTP/1.1, with a field Expect: 100-continue
 unfoldable pub is_due : Body → ℕ → List NameValue → Bool
-is_due body minor fields = minor == 1 && is_announced body && is_only (codes "100-continue") (values_of (codes "expect") fields)
+is_due body minor fields = minor == 1 && is_announced body && list_any asks_to_wait (values_of (codes "expect") fields)
 
 -- the connection closes after the answer
 unfoldable pub closes : ℕ → List NameValue → Bool
@@ -152,8 +156,15 @@ found_more other_values w = other_values
 abbrev pub found_field : List ℕ → Found → NameValue → Found
 found_field name seen field = if same_word field.0 name then found_more seen field.1 else seen
 
+-- a field of this name whose value passes the test
+abbrev pub is_field_with : List ℕ → (List ℕ → Bool) → NameValue → Bool
+is_field_with name test field = same_word field.0 name && test field.1
+
 abbrev pub is_close_field : NameValue → Bool
-is_close_field field = same_word field.0 (codes "connection") && lists_close field.1
+is_close_field field = is_field_with (codes "connection") lists_close field
+
+abbrev pub is_wait_field : NameValue → Bool
+is_wait_field field = is_field_with (codes "expect") asks_to_wait field
 
 abbrev pub found : Named → Found
 found named.None = no_value

@@ -72,7 +72,7 @@ IsJudged bytes headers judged.Bad = IsBad bytes
 abbrev pub IsHeadRead : HeadRead → List ℕ → List HeaderSpan → Shown → Shown → Type 0
 IsHeadRead (read.Head spans) buffered headers before after = HeadAt buffered headers spans
 IsHeadRead (read.Ended e) buffered headers before after = IfSome (ahead buffered after) (λ bytes. EndsWithoutHead bytes e)
-IsHeadRead read.Fault buffered headers before after = IsUndecided buffered × (length buffered < head_limit) × Rose before.failed_takes after.failed_takes
+IsHeadRead read.Fault buffered headers before after = HasNoRequest buffered × (length buffered < head_limit) × Rose before.failed_takes after.failed_takes
 
 -- a head that is not yet looked for says nothing
 abbrev pub IsEarly : List ℕ → List HeaderSpan → Judged → Type 0
@@ -88,8 +88,8 @@ IsHeadEnd read.Fault bytes headers = ⊥
 
 abbrev pub IsHeadStopped : HeadRead → List ℕ → List HeaderSpan → Type 0
 IsHeadStopped (read.Head spans) bytes headers = HeadAt bytes headers spans
-IsHeadStopped (read.Ended e) bytes headers = (e ≡ ending.BadHead) × IsBad bytes
-IsHeadStopped read.Fault bytes headers = IsUndecided bytes × (length bytes < head_limit)
+IsHeadStopped (read.Ended e) bytes headers = ⊥
+IsHeadStopped read.Fault bytes headers = HasNoRequest bytes × (length bytes < head_limit)
 
 abbrev pub IsHeadFull : HeadRead → List ℕ → List HeaderSpan → Type 0
 IsHeadFull (read.Head spans) bytes headers = HeadAt bytes headers spans

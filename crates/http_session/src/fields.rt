@@ -2,7 +2,7 @@
 ghost use Rattle.std.specs.Prelude.{option_map, ◌≡◌, ◌≤◌, ◌∷◌, length, map, All, codes, Option, false, true};
 ghost use Rattle.std.specs.List.{list_any};
 ghost use Rattle.httparse.specs.Spans.{IsHeaderWithin, header_bytes};
-ghost use Rattle.http_session.specs.Fields.{same_word, values_of, found, found_of, found_more, found_field, is_close_field, found_none, found_only, found_length, number_of, fields_at, lists_close, is_padded, after_first, is_only, is_none, length_of};
+ghost use Rattle.http_session.specs.Fields.{same_word, values_of, found, found_of, found_more, found_field, is_close_field, is_wait_field, asks_to_wait, found_none, found_only, found_length, number_of, fields_at, lists_close, is_padded, after_first, is_only, is_none, length_of};
 
 use crate::cut::{Class, split_run};
 use crate::message::Ending;
@@ -111,6 +111,26 @@ fn is_close(bytes: &[u8], header: HeaderSpan) -> bool
     ensures { result ≡ is_close_field (header_bytes bytes.now header) }
 {
     is_word(header.name.of(bytes), b"connection") && lists_close(header.value.of(bytes))
+}
+
+/// A field `Expect` is `100-continue`: each is judged by itself, and a list is no such word.
+pub(crate) fn has_wait(bytes: &[u8], headers: &[HeaderSpan]) -> bool
+    requires within { All (IsHeaderWithin (length bytes.now)) headers.now }
+    ensures { result ≡ list_any asks_to_wait (values_of (codes "expect") (fields_at bytes.now headers.now)) }
+{
+    for header in headers {
+        if is_wait(bytes, *header) {
+            return true;
+        }
+    }
+    false
+}
+
+fn is_wait(bytes: &[u8], header: HeaderSpan) -> bool
+    requires within { IsHeaderWithin (length bytes.now) header }
+    ensures { result ≡ is_wait_field (header_bytes bytes.now header) }
+{
+    is_word(header.name.of(bytes), b"expect") && is_word(header.value.of(bytes), b"100-continue")
 }
 
 /// The list has the word `close`.

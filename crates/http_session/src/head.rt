@@ -108,18 +108,18 @@ fn judge_at_end(bytes: &[u8], headers: &mut [HeaderSpan]) -> HeadRead
     }
 }
 
-/// Judges the bytes that came before the link failed: a head or a bad one among them is told first, so that the answer
-/// does not depend on when they were looked at.
+/// Judges the bytes that came before the link failed. A head among them is told first; without one the fault is told,
+/// also where no head can come of them.
 fn judge_at_fault(bytes: &[u8], headers: &mut [HeaderSpan]) -> HeadRead
     requires within { length bytes.now < 16384 }
     requires room { length headers.old ≡ 5500 }
     ensures room { length headers.new ≡ 5500 }
     ensures read { IsHeadStopped result bytes.now headers.new }
 {
-    match judge(bytes, target_space(bytes), headers) {
-        Judged::Head(spans) => HeadRead::Head(spans),
-        Judged::Bad => HeadRead::Ended(Ending::BadHead),
-        Judged::More => HeadRead::Fault,
+    match step_at(bytes, headers) {
+        Step::Head(spans) => HeadRead::Head(spans),
+        Step::More => HeadRead::Fault,
+        Step::Never => HeadRead::Fault,
     }
 }
 

@@ -1,4 +1,7 @@
+//! A message, and why none follows.
+
 use http::Method;
+use thiserror::Error;
 use wfs_ends::{List, Text};
 
 /// A request as it was sent (RFC 9112, sections 2 to 7).
@@ -15,19 +18,25 @@ pub struct Message {
 }
 
 /// Why no message follows.
-#[derive(Clone, Copy, Debug, PartialEq, Eq)]
+#[derive(Clone, Copy, Debug, PartialEq, Eq, Error)]
 pub enum Ending {
     /// The input ended after the last message. Only CR and LF may stand there.
+    #[error("the input has ended")]
     End,
     /// The input ended within a message.
+    #[error("the input ended within a message")]
     Cut,
     /// What came is no message of HTTP/1.0 or HTTP/1.1, or says its length in two ways.
+    #[error("bad message head")]
     BadHead,
     /// A limit was passed: 16,384 bytes of head, 4,194,304 of content, 8,388,608 of chunks as sent.
+    #[error("message too large")]
     TooLarge,
     /// A POST says no length.
+    #[error("length required")]
     NoLength,
     /// A transfer coding other than `chunked`, or a content coding other than `identity`.
+    #[error("coded body")]
     Coding,
 }
 

@@ -3,7 +3,7 @@ ghost use Rattle.std.specs.Prelude.{◌≡◌, length, All, codes, not, Ok};
 ghost use Rattle.httparse.specs.Spans.{IsHeaderWithin};
 ghost use Rattle.http_session.specs.Fields.{plan_of, framing_of, after_length, body_of, is_announced, is_due, is_coded, is_chunked, both_stated, is_none, is_only, is_other_than, values_of, fields_at, capped_length, length_of};
 
-use crate::fields::{find_named, has_close};
+use crate::fields::{find_named, has_close, has_wait};
 use crate::message::Ending;
 use httparse::spans::HeaderSpan;
 
@@ -47,9 +47,7 @@ pub(crate) fn plan_of(
         Err(ending) => Err(ending),
         Ok(body) => Ok(Plan {
             body,
-            due: minor == 1
-                && is_announced(body)
-                && is_only(bytes, headers, b"expect", b"100-continue"),
+            due: minor == 1 && is_announced(body) && has_wait(bytes, headers),
             close: minor == 0 || has_close(bytes, headers),
         }),
     }

@@ -51,9 +51,9 @@ impl Reader {
     /// body is read. Whatever pieces the link gives, the answers are those of all its bytes.
     ///
     /// `ReadFault` and `WriteFault` come only where the link counted a failure on that side. At `ReadFault` the bytes
-    /// that were taken hold no whole message: an input of them alone would be `Cut` or at its end, and the line was
-    /// written just where their head asks for it. At `WriteFault` they hold a head that asks for it. After anything but
-    /// a message the reader is not called again.
+    /// that were taken hold no whole message: no head, also where no head can come of them and that was not answered
+    /// before, or a head and a part of its body, and the line was written just where that head asks for it. At
+    /// `WriteFault` they hold a head that asks for it. After anything but a message the reader is not called again.
     pub fn next_message<L: Link>(&mut self, alloc: Global, link: &mut L) -> Next
         ensures { Reads self.old (L.Source.source link.old) result self.new (L.Source.source link.new) }
     {

@@ -1,11 +1,13 @@
 //! The start of a message: what its head says.
 ghost use Rattle.std.specs.Prelude.{◌≡◌, IfOk, IsUtf8};
+ghost use Rattle.httparse.specs.Grammar.{IsToken};
 ghost use Rattle.http_session.specs.Answers.{StartsBy};
 ghost use Rattle.http_session.specs.Reading.{HeadAt};
 
 use crate::message::Ending;
 use crate::plan::{Plan, plan_of};
 use http::Method;
+use http::method::MethodError;
 use httparse::spans::{HeaderSpan, RequestSpans};
 use std::alloc::Global;
 use wfs_ends::{Mem, OutOfMemory, Text};
@@ -57,11 +59,13 @@ pub(crate) fn read_start(
 
 /// The method: a token, so that it fails only for want of memory.
 fn method_of(alloc: Global, bytes: &[u8]) -> Mem<Method>
+    requires { IsToken bytes.now }
     ensures { IfOk result (λ m. m ≡ bytes.now) }
 {
     match Method::from_bytes(alloc, bytes) {
         Ok(method) => Ok(method),
-        Err(_) => Err(OutOfMemory),
+        Err(MethodError::OutOfMemory) => Err(OutOfMemory),
+        Err(MethodError::Invalid) => unreachable!(),
     }
 }
 
