@@ -34,8 +34,8 @@ is_live_then false true false e = absurd (let bad = e in cc)
 is_live_then false false false e = absurd (let bad = e in cc)
 
 -- where an identifier stands for a live lock, its number is that of one
-pub live_number : (at : Locks) (moment : ℕ) (id : LockId) → status at moment id ≡ Live → is_live_number at.locks moment id.number ≡ true
-live_number at moment id e = is_live_then (was_never_given at id) (id.opening == at.opening) (is_live_number at.locks moment id.number) e
+pub live_number : (at : Locks) (moment : ℕ) (id : LockId) → status at.opening at.given at.locks moment id ≡ Live → is_live_number at.locks moment id.number ≡ true
+live_number at moment id e = is_live_then (was_never_given at.opening at.given id) (id.opening == at.opening) (is_live_number at.locks moment id.number) e
 
 either : (a b c d : Bool) → (a ≡ true → c ≡ true) → (b ≡ true → d ≡ true) → (a || b) ≡ true → (c || d) ≡ true
 either true b true d f g e = refl
@@ -48,6 +48,6 @@ any_as_well p q h [] e = e
 any_as_well p q h (x ∷ xs) e = either (p x) (list_any p xs) (q x) (list_any q xs) (h x) (any_as_well p q h xs) e
 
 -- where an identifier stands for a live lock at a moment, its number is that of one at the last moment given
-pub live_number_now : (at : Locks) (moment : ℕ) (id : LockId) → status at moment id ≡ Live → at.last ≤ moment → is_live_number at.locks at.last id.number ≡ true
+pub live_number_now : (at : Locks) (moment : ℕ) (id : LockId) → status at.opening at.given at.locks moment id ≡ Live → at.last ≤ moment → is_live_number at.locks at.last id.number ≡ true
 live_number_now at moment id e le =
     any_as_well (λ lock. has_number id.number lock && is_live moment lock) (λ lock. has_number id.number lock && is_live at.last lock) (λ lock live. grind (arith, live, le)) at.locks (live_number at moment id e)

@@ -6,7 +6,7 @@ use Rattle.feature_values.specs.declared.feature.Rid.{Rid}
 use Rattle.lock_table.specs.declared.id.LockId.{LockId}
 use Rattle.lock_table.specs.declared.words.LockStatus.{LockStatus}
 use Rattle.lock_table.specs.declared.words.LockStatus.TheVariants.{Live, NeverGiven, Expired}
-use Rattle.lock_table.specs.Lock.{Lock, Locks}
+use Rattle.lock_table.specs.Lock.{Lock}
 
 -- a lock is live while the moment is below its deadline
 abbrev pub is_live : ℕ → Lock → Bool
@@ -50,16 +50,16 @@ has_number number lock = lock.number == number
 abbrev pub is_live_number : List Lock → ℕ → ℕ → Bool
 is_live_number locks moment number = list_any (λ lock. has_number number lock && is_live moment lock) locks
 
--- an identifier was never given where its opening is yet to come, or where it is the present one, which has not given
--- this number
-abbrev pub was_never_given : Locks → LockId → Bool
-was_never_given at id = nat_lt at.opening id.opening || ((id.opening == at.opening) && ((id.number == 0) || nat_lt at.given id.number))
+-- An identifier was never given where its opening is yet to come, or where it is the present one, which has not given this number. The
+-- present opening has given so many.
+abbrev pub was_never_given : ℕ → ℕ → LockId → Bool
+was_never_given opening given id = nat_lt opening id.opening || ((id.opening == opening) && ((id.number == 0) || nat_lt given id.number))
 
--- what an identifier stands for at a moment
-abbrev pub status : Locks → ℕ → LockId → LockStatus
-status at moment id =
-    if was_never_given at id then NeverGiven else
-    (if (id.opening == at.opening) && is_live_number at.locks moment id.number then Live else Expired)
+-- what an identifier stands for at a moment of an opening that has given so many locks, of which these may be live
+abbrev pub status : ℕ → ℕ → List Lock → ℕ → LockId → LockStatus
+status opening given locks moment id =
+    if was_never_given opening given id then NeverGiven else
+    (if (id.opening == opening) && is_live_number locks moment id.number then Live else Expired)
 
 abbrev pub numbered : ℕ → Lock → Option (List Rid)
 numbered number lock = if has_number number lock then Some lock.features else None

@@ -1,3 +1,5 @@
+//! The moments at which locks may end, the soonest first.
+
 ghost use Rattle.std.specs.Prelude.{min, ◌≡◌, ◌+◌, ◌<◌, ◌≤◌, ◌||◌, false, [], Bool, cond, nat_lt, OnOk, OnSome, IfSome, IfNone};
 ghost use Rattle.std.specs.List.{list_any, count_by};
 ghost use Rattle.std.proofs.Props.{props};

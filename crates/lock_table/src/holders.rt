@@ -1,3 +1,5 @@
+//! Which lock holds a feature, as a map by feature.
+
 ghost use Rattle.std.specs.Prelude.{◌≡◌, ◌+◌, ◌≤◌, None, OnOk, length, [], ◌∷◌};
 ghost use Rattle.std.specs.List.{IsDistinct-prop};
 ghost use Rattle.std.specs.HashMap.{spare, hash_map_len, keys, IsUnique};

@@ -1,3 +1,5 @@
+//! The identifier of a lock, as text.
+
 ghost use Rattle.std.specs.Prelude.{◌≡◌};
 ghost use Rattle.lock_table.specs.Ids.{numbers_of, id_of};
 

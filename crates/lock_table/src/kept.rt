@@ -1,3 +1,5 @@
+//! One lock as the table keeps it.
+
 ghost use Rattle.std.specs.Prelude.{◌≡◌, ◌+◌, cond};
 ghost use Rattle.std.specs.List.{filter};
 ghost use Rattle.lock_table.specs.Held.{is_live};

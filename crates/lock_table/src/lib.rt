@@ -5,6 +5,7 @@ mod deadlines;
 mod holders;
 mod id;
 mod kept;
+mod laws;
 mod noted;
 mod numbered;
 mod swept;
@@ -12,6 +13,7 @@ mod table;
 mod words;
 
 pub use id::LockId;
+pub use laws::same_are_equal;
 pub use table::LockTable;
 pub use words::{LockFault, LockStatus, Release};
 

@@ -1,3 +1,5 @@
+//! The deadlines of locks are put into the queue.
+
 ghost use Rattle.std.specs.Prelude.{◌≡◌, ℕ, ◌+◌, ◌<◌, ◌≤◌, true, length};
 ghost use Rattle.std.specs.BinaryHeap.{heap_items, heap_len, heap_capacity};
 ghost use Rattle.lock_table.specs.Held.{is_live_number, IsRising};

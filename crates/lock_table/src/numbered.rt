@@ -1,3 +1,5 @@
+//! Locks found and changed by their numbers, among locks whose numbers rise.
+
 ghost use Rattle.std.specs.Prelude.{◌≡◌, ◌+◌, ◌<◌, ◌≤◌, cond, MatchOption, length, true, false, HoldsAt, ◌++◌, [], ◌∷◌};
 ghost use Rattle.std.specs.Vec.{vec_len, vec_capacity};
 ghost use Rattle.std.specs.List.{AllByRecursion};

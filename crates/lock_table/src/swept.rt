@@ -1,3 +1,5 @@
+//! Locks that have ended are taken out, with what they held.
+
 ghost use Rattle.std.specs.Prelude.{◌≡◌, ◌≤◌, ℕ, length};
 ghost use Rattle.std.specs.HashMap.{spare, hash_map_len};
 ghost use Rattle.std.specs.List.{AllByRecursion};

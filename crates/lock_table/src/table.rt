@@ -1,3 +1,5 @@
+//! The table of locks: what holds a feature, and how locks are granted, renewed, released and ended.
+
 ghost use Rattle.std.specs.Prelude.{◌≡◌, ◌+◌, ◌*◌, ◌<◌, ◌≤◌, [], nat_le, IsTrue, IfErr, OnOk, All, None, Err, length};
 ghost use Rattle.std.specs.HashMap.{spare};
 ghost use Rattle.lock_table.specs.declared.words.LockFault.TheVariants.{Full, OutOfMemory};
@@ -119,7 +121,7 @@ impl LockTable {
     /// What an identifier stands for at a moment.
     pub fn status(&self, id: LockId, moment: u64) -> LockStatus
         requires { self.now.last ≤ moment }
-        ensures { result ≡ status self.now moment id }
+        ensures { result ≡ status self.now.opening self.now.given self.now.locks moment id }
     {
         if id.opening > self.opening {
             return LockStatus::NeverGiven;

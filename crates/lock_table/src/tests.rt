@@ -1,3 +1,5 @@
+//! Each call of the table with ample memory, and identifiers of locks.
+
 ghost use Rattle.std.specs.Prelude.{◌≡◌, ◌+◌, ◌<◌, ◌≤◌};
 
 use super::*;
@@ -161,6 +163,26 @@ fn a_lock_is_live_below_its_deadline(rt: HostRuntime) -> Result<(), Fail> {
     assert_eq!(rt; lock(&mut table, ended, 1100, 100).ok(), Some(Some(2)));
     assert_eq!(rt; table.holder(mark(3), 1199), Some(2));
     assert_eq!(rt; table.holder(mark(1), 1100), None);
+    Ok(())
+}
+
+// Features of two types under one number are different features: a lock on the one leaves the other free, and the touch of
+// the one leaves the other in its lock.
+#[test]
+fn features_of_two_types_are_different(rt: HostRuntime) -> Result<(), Fail> {
+    let mut table = LockTable::new(rt.alloc(), 7);
+    let one = marks(rt.alloc(), &[1])?;
+    assert_eq!(rt; lock(&mut table, one, 1000, 100).ok(), Some(Some(1)));
+    let other = Rid { kind: 2, number: 1 };
+    assert_eq!(rt; table.holder(other, 1000), None);
+    let others = List::of(vec![in rt.alloc(); other]?);
+    assert_eq!(rt; lock(&mut table, others, 1000, 100).ok(), Some(Some(2)));
+    let touched = marks(rt.alloc(), &[1])?;
+    assert_eq!(rt;
+        release(&mut table, 2, &touched, Release::Touched, 1050),
+        true
+    );
+    assert_eq!(rt; table.holder(other, 1149), Some(2));
     Ok(())
 }
 

@@ -1,3 +1,5 @@
+//! What the calls of the table are told and answer.
+
 use std::alloc::AllocError;
 
 /// What a transaction releases of its lock (OGC 09-025r2, 15.2.3.1.3).
