@@ -1,5 +1,5 @@
 -- How calls go on from one another.
-use Rattle.std.proofs.Common.{inl, inr, ⊎_elim, ℕ, ◌≤◌, List, arith}
+use Rattle.std.proofs.Common.{◌≡◌, inl, inr, ⊎_elim, ℕ, ◌≤◌, List, sym, subst, arith}
 use Rattle.disk_core.specs.Disk.{Leads, Comes, Every, Goes, Grows}
 
 module _ {D : Type 0} (moment : D → ℕ) (since : D → ℕ → List ℕ → Type 0) (images : D → List ℕ → Type 0) where
@@ -15,6 +15,14 @@ module _ {D : Type 0} (moment : D → ℕ) (since : D → ℕ → List ℕ → T
   -- of a disk that is left alone
   pub grows_still : (x : D) → ((t : ℕ) (c : List ℕ) → t ≤ moment x → images x c → since x t c) → ((c : List ℕ) → since x (moment x) c → images x c) → Grows moment since x x
   grows_still x counts only = record { later = omega arith; split = λ t c le had. inl had; before = λ t c le had. had; after = λ t c le had. counts t c le (only c had) }
+
+  pub leads_still : (step : List ℕ → List ℕ → Type 0) (x y : D) → ((t : ℕ) (c : List ℕ) → t ≤ moment x → images x c → since x t c) → ((c : List ℕ) → since x (moment x) c → images x c) → ((c : List ℕ) → step c c) → y ≡ x
+      → Leads moment since images step x y
+  leads_still step x y counts only is same = subst (λ z. Leads moment since images step x z) (sym same) (record {
+    grows = grows_still x counts only;
+    now = λ c here. (c, here, is c);
+    meanwhile = λ c had. inl (only c had);
+  })
 
   -- one call after the other
   pub leads_on : (first second both : List ℕ → List ℕ → Type 0) (x y z : D) → ((d e c : List ℕ) → first d e → second e c → both d c) → ((d c : List ℕ) → first d c → both d c)

@@ -14,7 +14,7 @@ use Rattle.feature_journal.specs.Recover.{is_able, generation_of, same_bytes, cu
 abbrev pub headed : ℕ → ℕ → List ℕ → List ℕ
 headed gate generation rest = gate ∷ (mark ++ to_be_bytes w64 generation ++ rest)
 
-able_headed : (generation : ℕ) (rest : List ℕ) → 0 < length rest → is_able (headed 1 generation rest) ≡ true
+pub able_headed : (generation : ℕ) (rest : List ℕ) → 0 < length rest → is_able (headed 1 generation rest) ≡ true
 unfolding is_able same_bytes
 able_headed generation rest some = let long : nat_lt 16 (length (headed 1 generation rest)) ≡ true = grind (arith, nat_tests) in rw long refl
 

@@ -48,7 +48,7 @@ first_list = record { generation_fits = omega arith; bodies_fit = tt }
 first_says : (x y : List ℕ) → Gate [] header x → Unmade y → Harmless true 1 ([] ∷ []) y → Nothing x y
 first_says x y gate un beside = elim (cases_eq gate.byte 1) [
   | inl is_open ↦ inr (record { second = false; generation = 1; bodies = []; list = first_list; one = inl refl; ends = closed (first_closed x (subst (λ n. Begins (n ∷ header) x) is_open gate.is)); beside = beside })
-  | inr not_open ↦ inl (no_record gate.byte 1 not_open gate.is, un)
+  | inr not_open ↦ inl (no_record gate.byte 1 not_open (omega arith) gate.is, un)
 ]
 
 module _ {D : Type 0} (moment : D → ℕ) (since : D → ℕ → List ℕ → Type 0) (images : D → List ℕ → Type 0)

@@ -1,8 +1,9 @@
 -- What each call makes of an image.
-use Rattle.std.proofs.Common.{◌≡◌, ℕ, ◌+◌, ◌≤◌, List, [], ◌∷◌, ◌++◌, length, sym, ap, subst, arith, append_assoc, length-append}
+use Rattle.std.proofs.Common.{◌≡◌, ℕ, ◌+◌, ◌≤◌, List, [], ◌∷◌, ◌++◌, length, sym, ap, subst, arith, append_assoc, length-append, Option, Some, IfSome}
 use Rattle.std.specs.Int.{to_be_bytes, w32}
-use Rattle.disk_core.specs.Disk.{Begins, Torn, Keeps, over}
+use Rattle.disk_core.specs.Disk.{Begins, Torn, Keeps, Every, over}
 use Rattle.disk_core.proofs.Bytes.{length-begins, begins_set, begins_byte, begins_front, begins_keeps}
+use Rattle.disk_core.proofs.Seen.{seen, reads_more}
 use Rattle.feature_journal.specs.Side.{framed, behind, opened, Closed, Gate}
 
 pub closed_long : (front c : List ℕ) → Closed front c → length front + 1 ≤ length c
@@ -10,6 +11,14 @@ closed_long front c b = omega (arith, length-begins (front ++ 0 ∷ []) c b, len
 
 pub gate_long : (front text c : List ℕ) → Gate front text c → length front + 1 ≤ length c
 gate_long front text c b = omega (arith, length-begins _ c b.is, length-append front (b.byte ∷ text))
+
+-- so a disk reads up to the gate
+pub gate_reads : {D : Type 0} (shown : D → Option (List ℕ)) (images : D → List ℕ → Type 0) → ((d : D) (s : List ℕ) → shown d ≡ Some s → images d s) → (d : D) (gate : ℕ) (front text : List ℕ) → length front ≡ gate
+    → Every (images d) (Gate front text) → IfSome (shown d) (λ s. gate ≤ length s)
+gate_reads shown images reads d gate front text is all = reads_more (shown d) (Gate front text) (λ s. gate ≤ length s) (λ s b. omega (arith, gate_long front text s b, is)) (seen shown images reads d (Gate front text) all)
+
+pub gate_front : (front text c : List ℕ) → Gate front text c → Gate front [] c
+gate_front front text c b = record { byte = b.byte; is = begins_front (front ++ b.byte ∷ []) text c (subst (λ l. Begins l c) (sym (append_assoc front (b.byte ∷ []) text)) b.is) }
 
 -- a record and a closed gate were written behind a gate
 pub laid : (front size body c : List ℕ) → size ≡ to_be_bytes w32 (length body) → Begins ((front ++ 0 ∷ []) ++ (size ++ (body ++ 0 ∷ []))) c → Begins (front ++ 0 ∷ behind body) c

@@ -10,4 +10,6 @@ pub mod Knowing
 pub mod First
 pub mod Added
 pub mod NextSide
+pub mod Quieted
 pub mod Recovered
+pub mod Refused

@@ -20,15 +20,15 @@ one_way true a = refl
 one_way false a = refl
 
 -- a side with the mark and the version is not foreign
-own_marked : (gate : ℕ) (rest : List ℕ) → foreign_at (gate ∷ (mark ++ rest)) ≡ None
+pub own_marked : (gate : ℕ) (rest : List ℕ) → foreign_at (gate ∷ (mark ++ rest)) ≡ None
 unfolding foreign_at differs_at
 own_marked gate rest = ap (λ (o : Option ℕ). if nat_lt (length (gate ∷ (mark ++ rest))) 17 then None else o) (one_way (gate == 0) None) ∙ one_way (nat_lt (length (gate ∷ (mark ++ rest))) 17) None
 
-own_short : (c : List ℕ) → length c < 17 → foreign_at c ≡ None
+pub own_short : (c : List ℕ) → length c < 17 → foreign_at c ≡ None
 unfolding foreign_at
 own_short c less = let test : nat_lt (length c) 17 ≡ true = grind (arith, nat_tests) in rw test refl
 
-own_shut : (c : List ℕ) → Begins (0 ∷ []) c → foreign_at c ≡ None
+pub own_shut : (c : List ℕ) → Begins (0 ∷ []) c → foreign_at c ≡ None
 unfolding foreign_at
 own_shut c b = ap foreign_at b.is ∙ one_way (nat_lt (length (0 ∷ b.rest)) 17) None
 
@@ -61,15 +61,15 @@ ending generation bodies c (tail gate body not_open fits b) = record {
   last_is = ap (λ (o : Option (List ℕ × List ℕ)). if gate == 0 then None else first_of o) (ap body_at (append_assoc (framed body) (0 ∷ []) b.rest) ∙ body_again body (0 ∷ b.rest) fits (omega arith));
 }
 
-count_bodies : (bodies : List (List ℕ)) → length bodies ≤ length (flat_map opened bodies)
+pub count_bodies : (bodies : List (List ℕ)) → length bodies ≤ length (flat_map opened bodies)
 count_bodies [] = omega arith
 count_bodies (body ∷ bodies) = omega (arith, count_bodies bodies, length-append (opened body) (flat_map opened bodies))
 
-side_size : (generation : ℕ) (bodies : List (List ℕ)) → length (side generation bodies) ≡ 16 + length (flat_map opened bodies)
+pub side_size : (generation : ℕ) (bodies : List (List ℕ)) → length (side generation bodies) ≡ 16 + length (flat_map opened bodies)
 unfolding side
 side_size generation bodies = omega arith
 
-behind_head : (generation : ℕ) (bodies : List (List ℕ)) (more : List ℕ) → drop 16 (side generation bodies ++ more) ≡ flat_map opened bodies ++ more
+pub behind_head : (generation : ℕ) (bodies : List (List ℕ)) (more : List ℕ) → drop 16 (side generation bodies ++ more) ≡ flat_map opened bodies ++ more
 unfolding side
 behind_head generation bodies more = refl
 
@@ -105,12 +105,12 @@ says_recovered lists a b s =
 own_unmade : (c : List ℕ) → Unmade c → foreign_at c ≡ None
 own_unmade c (few less) = own_short c less
 own_unmade c (zero_first b) = own_shut c b
-own_unmade c (no_record gate own not_open b) = ap foreign_at b.is ∙ own_marked gate _
+own_unmade c (no_record gate own not_open fits b) = ap foreign_at b.is ∙ own_marked gate _
 
 unable_unmade : (c : List ℕ) → Unmade c → is_able c ≡ false
 unable_unmade c (few less) = unable_short c less
 unable_unmade c (zero_first b) = ap is_able b.is ∙ unable 0 b.rest (λ e. omega (arith, e))
-unable_unmade c (no_record gate own not_open b) = ap is_able b.is ∙ unable gate _ not_open
+unable_unmade c (no_record gate own not_open fits b) = ap is_able b.is ∙ unable gate _ not_open
 
 pub unmade_recovered : (a b : List ℕ) → Unmade a → Unmade b → recover a b ≡ no_side
 unfolding recover current_of

@@ -9,3 +9,4 @@ pub mod Settled
 pub mod Nothing
 pub mod Making
 pub mod Faults
+pub mod Refused

@@ -34,6 +34,15 @@ pub record Known {D : Type 0} (images : D → List ℕ → Type 0) (second : Boo
   pub stale : is_stale ≡ true → Stale (not second) r.generation r.lists r.text × Every (images (spare second disks)) (Gate [] r.text)
   pub idle : is_stale ≡ false → Idle (not second) r.generation (images (spare second disks))
 
+-- The chosen side says this list, up to a gate that stands at this place and is closed where it is said to be. The other
+-- one is idle where it is not stale.
+pub record Placed {D : Type 0} (images : D → List ℕ → Type 0) (second : Bool) (gate : ℕ) (is_stale is_closed : Bool) (generation : ℕ) (bodies : List (List ℕ)) (disks : Pair D) : Type 0 where
+  pub list : IsList generation bodies
+  pub size : length (side generation bodies) ≡ gate
+  pub ends : Every (images (chosen second disks)) (Gate (side generation bodies) [])
+  pub closed : is_closed ≡ true → Every (images (chosen second disks)) (Closed (side generation bodies))
+  pub idle : is_stale ≡ false → Idle (not second) generation (images (spare second disks))
+
 -- a list, or, where a tail stands, the one with it
 abbrev pub SaysOr : (is_closed : Bool) → Reading → List ℕ → List ℕ → Type 0
 SaysOr is_closed r a b = Says r.lists a b ⊎ ((is_closed ≡ false) × Says ((r.bodies ++ r.body ∷ []) ∷ []) a b)

@@ -20,9 +20,11 @@ mod sides;
 pub use fault::{AppendFault, DiskFault};
 pub use journal::Journal;
 pub use laws::{
-    reads_records_back, recovers_nothing, recovers_what_is_said, recovers_whole_images, stands,
+    current_is_of_the_greater_generation, reads_records_back, recovers_nothing,
+    recovers_what_is_said, recovers_whole_images, refuses_foreign_sides, refuses_torn_records,
+    stands,
 };
-pub use settling::settle;
+pub use settling::{settle, shut_stale};
 
 #[cfg(test)]
 mod tests;

@@ -1,6 +1,10 @@
 use Rattle.std.proofs.Common.{[], refl}
 use Rattle.feature_journal.proofs.Idle.{cleared_goes, filled_goes, made_goes}
+use Rattle.feature_journal.proofs.Quieted.{at_front}
 use Rattle.feature_journal.proofs.making.make_on.Goals as goal
+
+pub set_gate-requires : goal.set_gate-requires
+set_gate-requires g c = at_front _
 
 pub returns-in-Err-clause-goes : goal.returns-in-Err-clause-goes
 returns-in-Err-clause-goes g c is_b generation idle = cleared_goes g.D.Disk.moment g.D.Disk.since g.D.Disk.images is_b generation c.args.text.now _ _ (c.clear_on.ensures.goes is_b generation idle)

@@ -2,11 +2,11 @@ use Rattle.disk_core.proofs.Seen.{ok_more}
 use Rattle.disk_core.specs.Disk.{Torn}
 use Rattle.disk_core.proofs.Runs.{goes, every_on}
 use Rattle.feature_journal.specs.Side.{Begun, behind}
-use Rattle.feature_journal.proofs.Images.{torn_on, begun_closed}
+use Rattle.feature_journal.proofs.Images.{torn_on, begun_closed, gate_reads}
 use Rattle.feature_journal.proofs.side.repair_on.Goals as goal
 
 pub set_gate-requires : goal.set_gate-requires
-set_gate-requires g c = let r = c.requires in (r.0, behind r.1, r.2, r.3)
+set_gate-requires g c = let r = c.requires in gate_reads g.D.Disk.shown g.D.Disk.images g.met.D.Disk.reads c.args.disk.now c.args.gate r.0 (behind r.1) r.2 r.3
 
 pub returns-clause-goes : goal.returns-clause-goes
 returns-clause-goes g c front body is all =
