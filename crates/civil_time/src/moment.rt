@@ -1,3 +1,5 @@
+//! The date and time of day of a moment in UTC, and their text.
+
 ghost use Rattle.std.specs.Prelude.{◌≡◌, ◌≤◌, ◌*◌, pos};
 ghost use Rattle.jiff.specs.Words.{civil_nanos};
 ghost use Rattle.civil_time.specs.Civil.{civil_of, civil_text, moment_text, two};

@@ -1,3 +1,5 @@
+//! Moments, among them leap days and the ends of years, with the text of each.
+
 use crate::moment_text;
 use std::test::Fail;
 

@@ -1,3 +1,5 @@
+//! What several queries select, as one list in which nothing comes twice.
+
 ghost use Rattle.std.specs.Prelude.{◌≡◌, ◌++◌, IfOk, IsPermutation, filter, not};
 ghost use Rattle.std.specs.List.Sorted.{IsSorted};
 ghost use Rattle.query_core.specs.Selecting.{is_among, joined};

@@ -1,3 +1,5 @@
+//! A page, cut out of a list.
+
 ghost use Rattle.std.specs.Prelude.{◌≡◌, IfOk, take, drop};
 ghost use Rattle.query_core.specs.Paging.{page_of};
 

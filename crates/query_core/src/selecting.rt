@@ -1,3 +1,5 @@
+//! The features that a query selects, in its order.
+
 ghost use Rattle.std.specs.Prelude.{◌≡◌, IfOk, OnOk, map, filter};
 ghost use Rattle.fes_filter.specs.View.{IsInOrder};
 ghost use Rattle.query_core.specs.Selecting.{is_selected, selected_ids};

@@ -1,3 +1,5 @@
+//! Features of a view, sorted by the keys of a query.
+
 ghost use Rattle.std.specs.Prelude.{◌≡◌, IfOk, map};
 ghost use Rattle.query_core.specs.Selecting.{held, ids_of};
 ghost use Rattle.query_core.specs.Sorting.{sorted};
