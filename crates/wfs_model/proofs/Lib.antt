@@ -1,0 +1,6 @@
+pub mod Middle
+mod Numerals
+pub mod Playing
+pub mod Refusing
+pub mod Sound
+pub mod Stepping

@@ -1,0 +1,17 @@
+//! Entries of the history.
+
+use crate::request::Request;
+
+/// An entry of the history: a changing request, with the seat and the moment at which it was taken up and the length of
+/// the message's body, or of its query where it has none.
+#[derive(Debug, PartialEq, Eq, Drop)]
+pub struct Entry {
+    /// Who asked.
+    pub seat: u32,
+    /// The moment, in whole seconds since 1970.
+    pub moment: u64,
+    /// The length of the body, or of the query text, in bytes.
+    pub size: u32,
+    /// What was asked.
+    pub request: Request,
+}

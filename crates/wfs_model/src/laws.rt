@@ -1,0 +1,30 @@
+//! Laws of the definitions. Each is the contract of a function that does nothing.
+
+ghost use Rattle.std.specs.Prelude.{◌≡◌, ℕ, List, take};
+ghost use Rattle.feature_values.specs.declared.schema.Schema.{Schema};
+ghost use Rattle.wfs_model.specs.declared.entry.Entry.{Entry};
+ghost use Rattle.wfs_model.specs.declared.reply.Refusal.{Refusal};
+ghost use Rattle.wfs_model.specs.declared.reply.Reply.TheVariants.{Refused};
+ghost use Rattle.wfs_model.specs.declared.request.Request.{Request};
+ghost use Rattle.wfs_model.specs.State.{State, durable};
+ghost use Rattle.wfs_model.specs.Kept.{IsKept};
+ghost use Rattle.wfs_model.specs.Changing.{IsChange};
+ghost use Rattle.wfs_model.specs.Step.{step};
+ghost use Rattle.wfs_model.specs.History.{after};
+ghost use Rattle.wfs_model.specs.Played.{accepted, played};
+
+/// What outlives the process is, after each beginning of a history, what the changes of its entries leave: nothing else is
+/// needed to have it again.
+pub fn changes_tell_what_is_kept()
+    ensures { (schema : Schema) (opening : State) (entries : List Entry) (n : ℕ) → IsKept schema (durable opening) → durable (after schema opening entries n) ≡ played (durable opening) (accepted schema opening (take n entries)) }
+{}
+
+/// A request that is refused changes the last moment alone.
+pub fn refused_changes_nothing()
+    ensures { (schema : Schema) (state : State) (moment : ℕ) (request : Request) (refusal : Refusal) → IsChange request → (step schema state moment request).0 ≡ Refused refusal → (step schema state moment request).1 ≡ record state { last = moment } }
+{}
+
+/// The last moment of a step is its moment.
+pub fn each_step_sets_the_moment()
+    ensures { (schema : Schema) (state : State) (moment : ℕ) (request : Request) → IsChange request → (step schema state moment request).1.last ≡ moment }
+{}
