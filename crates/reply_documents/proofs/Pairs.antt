@@ -1,10 +1,7 @@
 -- Two lists walked together.
-use Rattle.std.proofs.Common.{◌≡◌, ℕ, ◌+◌, ◌<◌, ◌≤◌, List, [], ◌∷◌, length, take, get_or, length-append, sym, ap₂, ◌∙◌, arith}
+use Rattle.std.proofs.Common.{◌≡◌, ℕ, ◌+◌, ◌<◌, ◌≤◌, List, length, take, get_or, sym, ap₂, ◌∙◌, arith}
 use Rattle.std.specs.Prelude.{min}
 use Rattle.std.specs.List.{flat_map, zip}
-use Rattle.std.proofs.lemmas.List.{take_more, take_all, append-nil}
-use Rattle.std.proofs.lemmas.Grind.{flat_map-append}
-use Rattle.std.proofs.lemmas.List.Concat.{flat_map-cons}
 use Rattle.std.proofs.lemmas.Slice.Zip.{length-zip, get_or-zip}
 use Rattle.wfs_ends.specs.Ends.{Writing, Writes}
 use Rattle.wfs_ends.proofs.Writing.{wrote_more, wrote_all}
@@ -26,17 +23,3 @@ module _ {A B : Type 0} (f : A × B → List ℕ) (xs : List A) (ys : List B) (i
   wrote_pairs s0 s1 le w =
       let long = length-zip xs ys in
       wrote_all f (zip xs ys) i s0 s1 (omega arith) w
-
-  -- the length of one more text
-  pub pair_length : (x : A) (y : B) → i < length xs → i < length ys → x ≡ get_or xs i x → y ≡ get_or ys i y
-      → length (flat_map f (take (i + 1) (zip xs ys))) ≡ length (flat_map f (take i (zip xs ys))) + length (f (x, y))
-  pair_length x y lx ly ex ey =
-      let long = length-zip xs ys in
-      rw (take_more (zip xs ys) i (x, y) (omega arith), flat_map-append f (take i (zip xs ys)) (get_or (zip xs ys) i (x, y) ∷ []), flat_map-cons, ← pair_at x y lx ly ex ey, append-nil)
-      (length-append (flat_map f (take i (zip xs ys))) (f (x, y)))
-
-  -- the pairs before the last turn's end are all
-  pub all_pairs : min (length xs) (length ys) ≤ i → take i (zip xs ys) ≡ zip xs ys
-  all_pairs le =
-      let long = length-zip xs ys in
-      take_all i (zip xs ys) (omega arith)

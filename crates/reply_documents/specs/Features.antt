@@ -1,5 +1,5 @@
 -- A feature as an element (OGC 07-036, sections 9.3 and 9.4): its properties in the order of its type, where they are not null.
-use Rattle.std.specs.Prelude.{ℕ, Bool, true, false, not, ◌==◌, if◌then◌else◌, List, [], ◌∷◌, length, take, min, codes, decimal, Option, slice_get}
+use Rattle.std.specs.Prelude.{ℕ, Bool, true, false, not, ◌==◌, if◌then◌else◌, List, [], ◌∷◌, length, take, min, codes, decimal, Option, Some, None, slice_get}
 use Rattle.std.specs.List.{flat_map, list_any, zip}
 use Rattle.std.specs.Fmt.{signed_decimal}
 use Rattle.wfs_ends.specs.Ends.{joined}
@@ -86,6 +86,21 @@ feature_text schema of_type f = joined (
     codes "<" ∷ schema.prefix ∷ codes ":" ∷ of_type.name ∷ codes " gml:id=\"" ∷ rid_text of_type f.id.number ∷ codes "\""
     ∷ inside_text schema of_type f.id.number f.values ∷ [])
 
+-- the whole document of a feature by itself, with the namespaces at its element
+unfoldable pub bare_text : Schema → FeatureType → Feature → List ℕ
+bare_text schema of_type f = joined (
+    codes "<?xml version=\"1.0\" encoding=\"UTF-8\"?><" ∷ schema.prefix ∷ codes ":" ∷ of_type.name
+    ∷ codes " xmlns:gml=\"http://www.opengis.net/gml/3.2\" xmlns:" ∷ schema.prefix ∷ codes "=\"" ∷ escaped true schema.space
+    ∷ codes "\" gml:id=\"" ∷ rid_text of_type f.id.number ∷ codes "\"" ∷ inside_text schema of_type f.id.number f.values ∷ [])
+
 -- the type with this number
 abbrev pub type_of : Schema → ℕ → Option FeatureType
 type_of schema number = slice_get schema.types number
+
+abbrev pub bare_if : Schema → Option FeatureType → Feature → List ℕ
+bare_if schema None f = []
+bare_if schema (Some of_type) f = bare_text schema of_type f
+
+-- a feature by itself (OGC 09-025r2, section 7.9.3.6); nothing where its type is not in the schema
+unfoldable pub bare_body : Schema → Feature → List ℕ
+bare_body schema f = bare_if schema (type_of schema f.id.kind) f

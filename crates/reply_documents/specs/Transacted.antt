@@ -5,7 +5,7 @@ use Rattle.wfs_ends.specs.Ends.{joined}
 use Rattle.doc_tree.specs.Escape.{escaped}
 use Rattle.feature_values.specs.declared.schema.FeatureType.{FeatureType}
 use Rattle.feature_values.specs.declared.schema.Schema.{Schema}
-use Rattle.wfs_machine.specs.declared.reply.Made.{Made}
+use Rattle.wfs_model.specs.declared.reply.Made.{Made}
 use Rattle.reply_documents.specs.Features.{rid_text, type_of}
 
 unfoldable pub some_handle_text : List ℕ → List ℕ

@@ -1,5 +1,7 @@
-ghost use Rattle.std.specs.Prelude.{◌≡◌, length, decimal, false, List, ℕ};
-ghost use Rattle.wfs_ends.specs.Ends.{Shown, capped, Gives, Writes};
+//! The head of an answer, and the small pieces that all answers have.
+
+ghost use Rattle.std.specs.Prelude.{◌≡◌, decimal, false, List, ℕ};
+ghost use Rattle.wfs_ends.specs.Ends.{Shown, Gives, Writes};
 ghost use Rattle.reply_documents.specs.Head.{phrase_of, close_text, status_line, head_text};
 
 use http::StatusCode;
@@ -19,21 +21,6 @@ pub(crate) fn put_number<S: Sink>(sink: &mut S, failed: bool, number: u64) -> bo
 {
     let mut buffer = Buffer::new();
     put_on(sink, failed, buffer.format(number).as_bytes())
-}
-
-// How many bytes a text has.
-pub(crate) fn str_length(text: &str) -> u64
-    ensures { result ≡ capped (length text.now) }
-{
-    text.len() as u64
-}
-
-// How many bytes a number in decimal has.
-pub(crate) fn number_length(number: u64) -> u64
-    ensures { result ≡ capped (length (decimal number)) }
-{
-    let mut buffer = Buffer::new();
-    buffer.format(number).len() as u64
 }
 
 // The number of a status.

@@ -8,12 +8,16 @@
 mod answer;
 mod collection;
 mod feature;
+mod lock;
 mod names;
 mod refusal;
 mod reply;
 mod row;
+mod stored;
+mod stored_types;
 mod transacted;
 mod value;
+mod values;
 
 pub use refusal::put_fixed;
 pub use reply::{put_reply, reply_length};

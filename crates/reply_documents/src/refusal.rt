@@ -1,13 +1,15 @@
+//! The body of a refusal, and refusals that no reply holds.
+
 ghost use Rattle.std.specs.Prelude.{◌≡◌, length};
 ghost use Rattle.wfs_ends.specs.Ends.{capped, Gives, Writes};
 ghost use Rattle.reply_documents.specs.Refusals.{fixed_text, refusal_body, report_text, row_of, row_shown};
 
-use crate::answer::{finish, put_head, put_str, str_length};
+use crate::answer::{finish, put_head, put_str};
 use crate::row::{Row, row_of};
-use doc_tree::{escaped_length, put_text_on};
+use doc_tree::put_text_on;
 use http::StatusCode;
-use wfs_ends::{Sink, WriteFault, put_on};
-use wfs_machine::Refusal;
+use wfs_ends::{CountingSink, Sink, WriteFault, put_on};
+use wfs_model::Refusal;
 
 // The parts of an exception report (OGC 06-121r9, 8.5) that are the same in each.
 const START: &[u8] =
@@ -33,15 +35,13 @@ fn put_report<S: Sink>(sink: &mut S, failed: bool, row: &Row, locator: &str) -> 
 }
 
 // How many bytes that is.
-#[tactic(auto, using(wfs_ends::proofs::Given::piece_lengths), unfolding(crate::specs::Refusals::report_text))]
+#[tactic(auto, using(wfs_ends::proofs::Writing::counted_on))]
 fn report_length(row: &Row, locator: &str) -> u64
     ensures { result ≡ capped (length (report_text (row_shown row.now) locator.now)) }
 {
-    let fixed = START.len() + LOCATOR.len() + TEXT.len() + END.len();
-    (fixed as u64)
-        .saturating_add(str_length(row.code))
-        .saturating_add(escaped_length(locator, true))
-        .saturating_add(str_length(row.reason))
+    let mut counter = CountingSink::new();
+    let _ = put_report(&mut counter, false, row, locator);
+    counter.count()
 }
 
 // The status of a refusal.
@@ -58,15 +58,6 @@ pub(crate) fn put_refusal<S: Sink>(sink: &mut S, failed: bool, refusal: &Refusal
 {
     let row = row_of(refusal.row);
     put_report(sink, failed, &row, refusal.locator.as_str())
-}
-
-// How many bytes that is.
-#[tactic(auto, unfolding(crate::specs::Refusals::refusal_body))]
-pub(crate) fn refusal_length(refusal: &Refusal) -> u64
-    ensures { result ≡ capped (length (refusal_body refusal.now.row refusal.now.locator)) }
-{
-    let row = row_of(refusal.row);
-    report_length(&row, refusal.locator.as_str())
 }
 
 /// Gives the refusal of a row of the table of refusals (docs/FORMATS.md) that points at what all of that row point at,

@@ -1,3 +1,5 @@
+//! The table of refusals: status, code, reason and locator of each row.
+
 ghost use Rattle.std.specs.Prelude.{◌≡◌};
 ghost use Rattle.reply_documents.specs.Refusals.{row, row_of, row_shown};
 

@@ -4,4 +4,4 @@ use Rattle.reply_documents.proofs.collection.put_collection.Goals as goal
 
 pub returns : goal.returns
 unfolding collection_body
-returns g c = rw (← c.count.ensures) (search wrote_steps depth 14)
+returns g c = rw (← c.count.ensures) (search wrote_steps depth 24)

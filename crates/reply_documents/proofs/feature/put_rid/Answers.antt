@@ -4,4 +4,4 @@ use Rattle.reply_documents.proofs.feature.put_rid.Goals as goal
 
 pub returns : goal.returns
 unfolding rid_text
-returns g c = rw (← c.as_str.ensures.value) (search wrote_steps depth 14)
+returns g c = search wrote_steps depth 24

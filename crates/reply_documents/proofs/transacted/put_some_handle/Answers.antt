@@ -4,4 +4,4 @@ use Rattle.reply_documents.proofs.transacted.put_some_handle.Goals as goal
 
 pub returns : goal.returns
 unfolding some_handle_text
-returns g c = rw (← c.as_str.ensures.value) (search wrote_steps depth 14)
+returns g c = search wrote_steps depth 24

@@ -1,0 +1,7 @@
+use Rattle.wfs_ends.proofs.Writing.{wrote_steps}
+use Rattle.reply_documents.specs.Locks.{some_features_text}
+use Rattle.reply_documents.proofs.lock.put_some_features.Goals as goal
+
+pub returns : goal.returns
+unfolding some_features_text
+returns g c = search wrote_steps depth 24

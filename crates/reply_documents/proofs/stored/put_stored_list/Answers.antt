@@ -1,0 +1,7 @@
+use Rattle.wfs_ends.proofs.Writing.{wrote_steps}
+use Rattle.reply_documents.specs.StoredQueries.{stored_list_body}
+use Rattle.reply_documents.proofs.stored.put_stored_list.Goals as goal
+
+pub returns : goal.returns
+unfolding stored_list_body
+returns g c = search wrote_steps depth 24

@@ -1,0 +1,326 @@
+//! Each row of the table of refusals, and refusals that no reply holds.
+
+use crate::tests::samples::marks;
+use crate::{put_fixed, put_reply, reply_length};
+use std::alloc::Global;
+use std::test::Fail;
+use wfs_ends::{Mem, MemSink, Text};
+use wfs_model::{Refusal, Reply};
+
+// A row, the status and its phrase, the length of the body, the exception's code, a locator and the text.
+type Row = (
+    u8,
+    &'static str,
+    u64,
+    &'static str,
+    &'static str,
+    &'static str,
+);
+
+static ROWS: [Row; 28] = [
+    (
+        1,
+        "400 Bad Request",
+        280,
+        "OperationParsingFailed",
+        "head",
+        "bad message head",
+    ),
+    (
+        2,
+        "413 Payload Too Large",
+        275,
+        "NoApplicableCode",
+        "size",
+        "message too large",
+    ),
+    (
+        3,
+        "411 Length Required",
+        283,
+        "NoApplicableCode",
+        "Content-Length",
+        "length required",
+    ),
+    (
+        4,
+        "501 Not Implemented",
+        272,
+        "OptionNotSupported",
+        "coding",
+        "coded body",
+    ),
+    (
+        5,
+        "404 Not Found",
+        270,
+        "NoApplicableCode",
+        "path",
+        "unknown path",
+    ),
+    (
+        6,
+        "501 Not Implemented",
+        279,
+        "OperationNotSupported",
+        "method",
+        "unknown method",
+    ),
+    (
+        7,
+        "400 Bad Request",
+        280,
+        "OperationParsingFailed",
+        "document",
+        "bad document",
+    ),
+    (
+        8,
+        "400 Bad Request",
+        283,
+        "OperationParsingFailed",
+        "x",
+        "misplaced or malformed",
+    ),
+    (
+        9,
+        "501 Not Implemented",
+        277,
+        "OperationNotSupported",
+        "x",
+        "unknown operation",
+    ),
+    (
+        10,
+        "400 Bad Request",
+        273,
+        "MissingParameterValue",
+        "x",
+        "value missing",
+    ),
+    (
+        11,
+        "400 Bad Request",
+        273,
+        "InvalidParameterValue",
+        "x",
+        "value refused",
+    ),
+    (
+        12,
+        "501 Not Implemented",
+        271,
+        "OptionNotSupported",
+        "x",
+        "option refused",
+    ),
+    (
+        13,
+        "400 Bad Request",
+        293,
+        "VersionNegotiationFailed",
+        "acceptVersions",
+        "no common version",
+    ),
+    (
+        14,
+        "400 Bad Request",
+        269,
+        "InvalidValue",
+        "x",
+        "value does not fit",
+    ),
+    (
+        15,
+        "400 Bad Request",
+        269,
+        "InvalidLockId",
+        "lockId",
+        "unknown lock",
+    ),
+    (
+        16,
+        "403 Forbidden",
+        274,
+        "LockHasExpired",
+        "lockId",
+        "lock has expired",
+    ),
+    (
+        17,
+        "400 Bad Request",
+        277,
+        "InvalidValue",
+        "Filter",
+        "more than one feature",
+    ),
+    (
+        18,
+        "400 Bad Request",
+        282,
+        "MissingParameterValue",
+        "lockId",
+        "feature is locked",
+    ),
+    (
+        19,
+        "403 Forbidden",
+        292,
+        "OperationProcessingFailed",
+        "x",
+        "feature is locked by another",
+    ),
+    (
+        20,
+        "409 Conflict",
+        276,
+        "CannotLockAllFeatures",
+        "x",
+        "not all are free",
+    ),
+    (
+        21,
+        "409 Conflict",
+        278,
+        "DuplicateStoredQueryIdValue",
+        "x",
+        "query exists",
+    ),
+    (
+        22,
+        "400 Bad Request",
+        287,
+        "DuplicateStoredQueryParameterName",
+        "x",
+        "parameter twice",
+    ),
+    (
+        23,
+        "404 Not Found",
+        276,
+        "InvalidParameterValue",
+        "id",
+        "no such feature",
+    ),
+    (
+        24,
+        "400 Bad Request",
+        286,
+        "InvalidParameterValue",
+        "storedQuery_id",
+        "no such query",
+    ),
+    (
+        25,
+        "500 Internal Server Error",
+        270,
+        "NoApplicableCode",
+        "store",
+        "store fault",
+    ),
+    (
+        26,
+        "503 Service Unavailable",
+        262,
+        "NoApplicableCode",
+        "full",
+        "full",
+    ),
+    (
+        27,
+        "503 Service Unavailable",
+        269,
+        "NoApplicableCode",
+        "memory",
+        "no memory",
+    ),
+    (
+        99,
+        "501 Not Implemented",
+        274,
+        "OptionNotSupported",
+        "stage",
+        "not built yet",
+    ),
+];
+
+// The rows whose refusals all point at the locator above.
+static FIXED: [u8; 18] = [
+    1, 2, 3, 4, 5, 6, 7, 13, 15, 16, 17, 18, 23, 24, 25, 26, 27, 99,
+];
+
+fn report(alloc: Global, row: Row) -> Mem<String> {
+    let (_, status, size, code, locator, text) = row;
+    Ok(format!(in alloc;
+        "HTTP/1.1 {status}\r\nContent-Type: text/xml\r\nContent-Length: {size}\r\nConnection: close\r\n\r\n<?xml version=\"1.0\" encoding=\"UTF-8\"?><ows:ExceptionReport xmlns:ows=\"http://www.opengis.net/ows/1.1\" version=\"2.0.2\"><ows:Exception exceptionCode=\"{code}\" locator=\"{locator}\"><ows:ExceptionText>{text}</ows:ExceptionText></ows:Exception></ows:ExceptionReport>"
+    )?)
+}
+
+fn is_refused(alloc: Global, row: Row) -> Mem<bool> {
+    let schema = marks(alloc)?;
+    let expected = report(alloc, row)?;
+    let reply = Reply::Refused(Refusal {
+        row: row.0,
+        locator: Text::of(alloc, row.4)?,
+    });
+    let mut sink = MemSink::new(alloc, 500, Vec::new(alloc))?;
+    let _ = put_reply(&reply, &schema, true, &mut sink);
+    Ok(reply_length(&reply, &schema) == row.2 && sink.bytes() == expected.as_bytes())
+}
+
+fn is_refused_as_fixed(alloc: Global, row: Row) -> Mem<bool> {
+    let expected = report(alloc, row)?;
+    let mut sink = MemSink::new(alloc, 500, Vec::new(alloc))?;
+    let _ = put_fixed(row.0, true, &mut sink);
+    Ok(sink.bytes() == expected.as_bytes())
+}
+
+// The first row whose refusal is given otherwise.
+fn first_wrong(alloc: Global) -> Mem<Option<u8>> {
+    for row in ROWS.iter() {
+        if !is_refused(alloc, *row)? {
+            return Ok(Some(row.0));
+        }
+    }
+    Ok(None)
+}
+
+// The first row with one locator whose refusal is given otherwise without a reply.
+fn first_fixed_wrong(alloc: Global) -> Mem<Option<u8>> {
+    for row in ROWS.iter() {
+        if FIXED.contains(&row.0) && !is_refused_as_fixed(alloc, *row)? {
+            return Ok(Some(row.0));
+        }
+    }
+    Ok(None)
+}
+
+#[test]
+fn each_row_has_its_refusal(rt: HostRuntime) -> Result<(), Fail> {
+    assert_eq!(rt; first_wrong(rt.alloc())?, None);
+    Ok(())
+}
+
+#[test]
+fn a_row_with_one_locator_is_refused_without_a_reply(rt: HostRuntime) -> Result<(), Fail> {
+    assert_eq!(rt; first_fixed_wrong(rt.alloc())?, None);
+    Ok(())
+}
+
+#[test]
+fn a_bad_document_is_refused_and_the_connection_stays(rt: HostRuntime) -> Result<(), Fail> {
+    let mut sink = MemSink::new(rt.alloc(), 500, Vec::new(rt.alloc()))?;
+    let _ = put_fixed(7, false, &mut sink);
+    let expected =
+        "HTTP/1.1 400 Bad Request\r\nContent-Type: text/xml\r\nContent-Length: 280\r\n\r\n<?xml version=\"1.0\" encoding=\"UTF-8\"?><ows:ExceptionReport xmlns:ows=\"http://www.opengis.net/ows/1.1\" version=\"2.0.2\"><ows:Exception exceptionCode=\"OperationParsingFailed\" locator=\"document\"><ows:ExceptionText>bad document</ows:ExceptionText></ows:Exception></ows:ExceptionReport>";
+    assert_eq!(rt; sink.bytes(), expected.as_bytes());
+    Ok(())
+}
+
+#[test]
+fn a_front_is_given_where_the_sink_fails(rt: HostRuntime) -> Result<(), Fail> {
+    let mut sink = MemSink::new(rt.alloc(), 17, Vec::new(rt.alloc()))?;
+    assert!(rt; put_fixed(25, true, &mut sink).is_err());
+    assert_eq!(rt; sink.bytes(), "HTTP/1.1 500 Inte".as_bytes());
+    Ok(())
+}

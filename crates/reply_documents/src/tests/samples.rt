@@ -1,0 +1,135 @@
+//! A schema, features of it, and what a reply is compared with.
+
+use crate::{put_reply, reply_length};
+use feature_values::{Feature, FeatureType, Property, Rid, Schema, Value, ValueKind};
+use std::alloc::Global;
+use wfs_ends::{List, Mem, MemSink, Text};
+use wfs_model::Reply;
+
+pub(crate) fn texts(alloc: Global, all: &[&str]) -> Mem<List<Text>> {
+    let mut found = Vec::new(alloc);
+    for text in all {
+        found.push(Text::of(alloc, text)?)?;
+    }
+    Ok(List::of(found))
+}
+
+fn feature_type(alloc: Global, name: &str, properties: &[(&str, ValueKind)]) -> Mem<FeatureType> {
+    let mut found = Vec::new(alloc);
+    for (name, kind) in properties {
+        found.push(Property {
+            name: Text::of(alloc, name)?,
+            kind: *kind,
+            required: false,
+            max: 4_096,
+        })?;
+    }
+    Ok(FeatureType {
+        name: Text::of(alloc, name)?,
+        properties: List::of(found),
+    })
+}
+
+static MARK: [(&str, ValueKind); 3] = [
+    ("label", ValueKind::Words),
+    ("size", ValueKind::Whole),
+    ("place", ValueKind::Point),
+];
+
+static FLAG: [(&str, ValueKind); 2] = [("up", ValueKind::Truth), ("lit", ValueKind::Truth)];
+
+// Marks and flags.
+pub(crate) fn marks(alloc: Global) -> Mem<Schema> {
+    let mut types = Vec::new(alloc);
+    types.push(feature_type(alloc, "Mark", &MARK)?)?;
+    types.push(feature_type(alloc, "Flag", &FLAG)?)?;
+    Ok(Schema {
+        title: Text::of(alloc, "Marks")?,
+        address: Text::of(alloc, "http://localhost:8080/wfs")?,
+        space: Text::of(alloc, "http://example.org/marks")?,
+        prefix: Text::of(alloc, "m")?,
+        srs: texts(alloc, &["urn:ogc:def:crs:EPSG::25832", "EPSG:25832"])?,
+        types: List::of(types),
+    })
+}
+
+pub(crate) fn feature(kind: u32, number: u64, values: Vec<Value>) -> Feature {
+    Feature {
+        id: Rid { kind, number },
+        values: List::of(values),
+    }
+}
+
+pub(crate) fn mark(
+    alloc: Global,
+    number: u64,
+    label: &str,
+    size: Value,
+    place: Value,
+) -> Mem<Feature> {
+    let mut values = Vec::new(alloc);
+    values.push(Value::Words(Text::of(alloc, label)?))?;
+    values.push(size)?;
+    values.push(place)?;
+    Ok(feature(0, number, values))
+}
+
+pub(crate) fn flag(alloc: Global, kind: u32, number: u64, up: Value, lit: Value) -> Mem<Feature> {
+    let mut values = Vec::new(alloc);
+    values.push(up)?;
+    values.push(lit)?;
+    Ok(feature(kind, number, values))
+}
+
+// The media types of replies.
+pub(crate) const GML: &str = "application/gml+xml; version=3.2";
+
+pub(crate) const XML: &str = "text/xml";
+
+// The bytes of a reply. The connection ends after it where `close` says so.
+fn given(alloc: Global, reply: &Reply, close: bool) -> Mem<MemSink> {
+    let schema = marks(alloc)?;
+    let mut sink = MemSink::new(alloc, 4_000, Vec::new(alloc))?;
+    let _ = put_reply(reply, &schema, close, &mut sink);
+    Ok(sink)
+}
+
+// The bytes of an answer with a body.
+fn expected(alloc: Global, media: &str, size: u64, close: bool, body: &str) -> Mem<String> {
+    let end = if close { "Connection: close\r\n" } else { "" };
+    Ok(format!(in alloc;
+        "HTTP/1.1 200 OK\r\nContent-Type: {media}\r\nContent-Length: {size}\r\n{end}\r\n{body}"
+    )?)
+}
+
+fn length_of(alloc: Global, reply: &Reply) -> Mem<u64> {
+    let schema = marks(alloc)?;
+    Ok(reply_length(reply, &schema))
+}
+
+// Whether a reply is given with this media type, length and body, and is as long as is said.
+pub(crate) fn is_given(
+    alloc: Global,
+    reply: &Reply,
+    media: &str,
+    size: u64,
+    body: &str,
+) -> Mem<bool> {
+    let answer = given(alloc, reply, false)?;
+    let text = expected(alloc, media, size, false, body)?;
+    let length = length_of(alloc, reply)?;
+    Ok(length == size && answer.bytes() == text.as_bytes())
+}
+
+// Whether a reply is given so where the connection ends after it.
+pub(crate) fn is_given_last(
+    alloc: Global,
+    reply: &Reply,
+    media: &str,
+    size: u64,
+    body: &str,
+) -> Mem<bool> {
+    let answer = given(alloc, reply, true)?;
+    let text = expected(alloc, media, size, true, body)?;
+    Ok(answer.bytes() == text.as_bytes())
+}

@@ -1,0 +1,7 @@
+use Rattle.wfs_ends.proofs.Writing.{wrote_steps}
+use Rattle.service_docs.specs.CapabilitiesDocument.{operations_text}
+use Rattle.service_docs.proofs.capabilities.put_operations.Goals as goal
+
+pub returns : goal.returns
+unfolding operations_text
+returns g c = search wrote_steps depth 24

@@ -1,0 +1,3 @@
+pub mod CapabilitiesDocument
+pub mod InTurn
+pub mod SchemaDocument
