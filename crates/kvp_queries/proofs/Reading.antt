@@ -8,7 +8,7 @@ use Rattle.std.specs.declared.borrow.CowStr.{CowStr}
 use Rattle.form_urlencoded.specs.Parse.{pairs_left, YieldsDecoded}
 use Rattle.form_urlencoded.specs.declared.reading.Pairs.{Pairs}
 use Rattle.wfs_ends.specs.Read.{◌>>=◌, FailsBut}
-use Rattle.wfs_machine.specs.declared.fault.AskFault.{AskFault}
+use Rattle.wfs_model.specs.declared.fault.AskFault.{AskFault}
 use Rattle.kvp_queries.specs.Pairs.{Pair, pair_of, is_given, is_repeat, first_repeat, behind, stays}
 
 pub behind_none : (before : List Pair) → behind before [] ≡ Ok before

@@ -1,8 +1,8 @@
 -- Words for judging a query: what it asks for, or the first refusal.
 use Rattle.std.specs.Prelude.{ℕ, Bool, not, List, Option, Some, None, is_some, Result, Ok, Err, codes}
 use Rattle.wfs_ends.specs.Read.{unless}
-use Rattle.wfs_machine.specs.Terms.{refused}
-use Rattle.wfs_machine.specs.declared.fault.AskFault.{AskFault}
+use Rattle.wfs_model.specs.Terms.{refused}
+use Rattle.wfs_model.specs.declared.fault.AskFault.{AskFault}
 use Rattle.kvp_queries.specs.Pairs.{Pair, value_of}
 
 abbrev pub Ask : Type 0 → Type 0

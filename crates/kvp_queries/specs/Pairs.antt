@@ -6,8 +6,8 @@ use Rattle.std.specs.Str.{bytes_eq, str_eq_ignore_ascii_case}
 use Rattle.std.specs.Str.Lossy.{utf8_lossy}
 use Rattle.form_urlencoded.specs.Form.{raw_pairs, decode, extend_pairs}
 use Rattle.wfs_ends.specs.Read.{◌>>=◌}
-use Rattle.wfs_machine.specs.Terms.{refused}
-use Rattle.wfs_machine.specs.declared.fault.AskFault.{AskFault}
+use Rattle.wfs_model.specs.Terms.{refused}
+use Rattle.wfs_model.specs.declared.fault.AskFault.{AskFault}
 
 -- a name and a value
 abbrev pub Pair : Type 0

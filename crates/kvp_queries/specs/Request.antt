@@ -5,10 +5,10 @@ use Rattle.std.specs.Str.{bytes_eq}
 use Rattle.wfs_ends.specs.Read.{◌>>=◌, unless}
 use Rattle.feature_values.specs.declared.schema.Schema.{Schema}
 use Rattle.fes_filter.specs.declared.query.Query.{Query}
-use Rattle.wfs_machine.specs.Terms.{refused, is_version, is_format, count_of}
-use Rattle.wfs_machine.specs.declared.request.Asked.TheVariants.{Plain}
-use Rattle.wfs_machine.specs.declared.request.Request.{Request}
-use Rattle.wfs_machine.specs.declared.request.Request.TheVariants.{GetFeatures}
+use Rattle.wfs_model.specs.Terms.{refused, is_version, is_format, count_of}
+use Rattle.wfs_model.specs.declared.asked.Asked.TheVariants.{Plain}
+use Rattle.wfs_model.specs.declared.request.Request.{Request}
+use Rattle.wfs_model.specs.declared.request.Request.TheVariants.{GetFeatures}
 use Rattle.kvp_queries.specs.declared.presenting.Page.{Page}
 use Rattle.kvp_queries.specs.Pairs.{Pair, pairs_of, given_of, value_of, link_of}
 use Rattle.kvp_queries.specs.Judging.{Ask, or_fault, allowed, not_built, unread}

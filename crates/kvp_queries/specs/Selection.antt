@@ -22,8 +22,8 @@ use Rattle.fes_filter.specs.declared.ids.IdRef.TheVariants.{Known, Nobody}
 use Rattle.fes_docs.specs.Names.{refusal_of}
 use Rattle.fes_docs.specs.Filters.{filter_of}
 use Rattle.fes_docs.specs.declared.fault.FilterDocFault.{FilterDocFault}
-use Rattle.wfs_machine.specs.Terms.{refused, is_listed}
-use Rattle.wfs_machine.specs.declared.fault.AskFault.{AskFault}
+use Rattle.wfs_model.specs.Terms.{refused, is_listed}
+use Rattle.wfs_model.specs.declared.fault.AskFault.{AskFault}
 use Rattle.kvp_queries.specs.Pairs.{Pair, value_of}
 use Rattle.kvp_queries.specs.Judging.{Ask, or_fault, allowed}
 

@@ -8,8 +8,8 @@ use Rattle.feature_values.specs.declared.schema.FeatureType.{FeatureType}
 use Rattle.feature_values.specs.declared.schema.Schema.{Schema}
 use Rattle.fes_filter.specs.Check.{type_in, property_in, is_shape}
 use Rattle.fes_filter.specs.declared.query.SortKey.{SortKey}
-use Rattle.wfs_machine.specs.Terms.{refused}
-use Rattle.wfs_machine.specs.declared.fault.AskFault.{AskFault}
+use Rattle.wfs_model.specs.Terms.{refused}
+use Rattle.wfs_model.specs.declared.fault.AskFault.{AskFault}
 use Rattle.kvp_queries.specs.Pairs.{Pair, value_of}
 use Rattle.kvp_queries.specs.Judging.{Ask, or_fault}
 use Rattle.kvp_queries.specs.Selection.{is_comma}

@@ -1,6 +1,6 @@
 ghost use Rattle.std.specs.Prelude.{◌≡◌, option_map};
 ghost use Rattle.wfs_ends.specs.Read.{GivesBut};
-ghost use Rattle.wfs_machine.specs.declared.fault.AskFault.TheVariants.{OutOfMemory};
+ghost use Rattle.wfs_model.specs.declared.fault.AskFault.TheVariants.{OutOfMemory};
 ghost use Rattle.kvp_queries.specs.Judging.{unread};
 ghost use Rattle.kvp_queries.specs.Selection.{type_names_of, type_of, kind_of, srs_of};
 ghost use Rattle.kvp_queries.specs.Request.{property_name_of, typed_of, enough_of, query_of};
@@ -13,7 +13,7 @@ use feature_values::{Schema, without_prefix};
 use fes_filter::Query;
 use std::alloc::Global;
 use wfs_ends::Text;
-use wfs_machine::{AskFault, is_listed, refused};
+use wfs_model::{AskFault, is_listed, refused};
 
 // Refuses a parameter that is not built yet.
 #[tactic(auto, unfolding(crate::specs::Judging::unread, wfs_ends::specs::Read::unless))]

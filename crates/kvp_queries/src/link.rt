@@ -56,5 +56,5 @@ pub(crate) fn link_of(alloc: Global, address: &str, query: &[u8]) -> Mem<Text>
         };
         add_pair(&mut form, name, value)?;
     }
-    Ok(Text::of_string(form.finish()))
+    Text::of_string(form.finish())
 }

@@ -2,7 +2,7 @@ ghost use Rattle.std.specs.Prelude.{◌≡◌, ◌++◌, [], ◌∷◌, OnOk, fi
 ghost use Rattle.std.specs.Cow.{cow_str_bytes};
 ghost use Rattle.std.specs.List.{list_any};
 ghost use Rattle.wfs_ends.specs.Read.{GivesBut};
-ghost use Rattle.wfs_machine.specs.declared.fault.AskFault.TheVariants.{OutOfMemory};
+ghost use Rattle.wfs_model.specs.declared.fault.AskFault.TheVariants.{OutOfMemory};
 ghost use Rattle.kvp_queries.specs.Pairs.{is_given, is_repeat, behind, given_of, pairs_of, value_of};
 
 use crate::names::{is_same, is_type_names, listed_name, repeated_name};
@@ -10,7 +10,7 @@ use form_urlencoded::parse;
 use std::alloc::Global;
 use std::borrow::CowStr;
 use wfs_ends::{Mem, Text};
-use wfs_machine::{AskFault, refused};
+use wfs_model::{AskFault, refused};
 
 // Whether a pair is read.
 #[tactic(auto, unfolding(crate::specs::Pairs::is_given))]

@@ -1,12 +1,12 @@
 ghost use Rattle.std.specs.Prelude.{◌≡◌};
 ghost use Rattle.wfs_ends.specs.Read.{GivesBut};
-ghost use Rattle.wfs_machine.specs.declared.fault.AskFault.TheVariants.{OutOfMemory};
+ghost use Rattle.wfs_model.specs.declared.fault.AskFault.TheVariants.{OutOfMemory};
 ghost use Rattle.kvp_queries.specs.Request.{number_at, hits_of, format_of, resolve_of, page_of};
 
 use crate::pairs::value_of;
 use std::alloc::Global;
 use wfs_ends::Text;
-use wfs_machine::{AskFault, is_format, read_count, refused};
+use wfs_model::{AskFault, is_format, read_count, refused};
 
 // Which part of the features is presented, and whether they are only counted.
 #[derive(Clone, Copy, Debug)]

@@ -1,7 +1,7 @@
 ghost use Rattle.std.specs.Prelude.{◌≡◌, [], ◌∷◌, IfOk};
 ghost use Rattle.wfs_ends.specs.Read.{GivesBut};
 ghost use Rattle.wfs_machine.specs.Step.{IsOfTypes};
-ghost use Rattle.wfs_machine.specs.declared.fault.AskFault.TheVariants.{OutOfMemory};
+ghost use Rattle.wfs_model.specs.declared.fault.AskFault.TheVariants.{OutOfMemory};
 ghost use Rattle.kvp_queries.specs.Request.{service_of, is_other_operation, operation_of, version_of, base_of, features_asked, features_of, asked_of};
 
 use crate::features::query_of;
@@ -12,7 +12,7 @@ use feature_values::Schema;
 use fes_filter::Query;
 use std::alloc::Global;
 use wfs_ends::{List, Mem, Text};
-use wfs_machine::{AskFault, Asked, Present, Request, is_version, refused};
+use wfs_model::{AskFault, Asked, Present, Request, is_version, refused};
 
 // The service.
 #[tactic(auto, unfolding(crate::specs::Request::service_of, wfs_ends::specs::Read::unless))]

@@ -2,7 +2,7 @@ ghost use Rattle.std.specs.Prelude.{◌≡◌, IfOk, None};
 ghost use Rattle.wfs_ends.specs.Read.{GivesBut};
 ghost use Rattle.doc_read.specs.Document.{document};
 ghost use Rattle.fes_docs.specs.Filters.{filter_of};
-ghost use Rattle.wfs_machine.specs.declared.fault.AskFault.TheVariants.{OutOfMemory};
+ghost use Rattle.wfs_model.specs.declared.fault.AskFault.TheVariants.{OutOfMemory};
 ghost use Rattle.kvp_queries.specs.Selection.{id_of, ids_in, ids_filter, or_no_document, refusal_by, or_refusal, filter_in, document_filter, corner_at, box_between, box_in, box_filter, alone, first_of, only_one, chosen};
 
 use crate::lists::cut;
@@ -16,7 +16,7 @@ use geom_core::{Box2, Pos};
 use gml_docs::read_position;
 use std::alloc::Global;
 use wfs_ends::{List, Mem, Text};
-use wfs_machine::{AskFault, is_listed, refused};
+use wfs_model::{AskFault, is_listed, refused};
 
 // ---- resourceId
 

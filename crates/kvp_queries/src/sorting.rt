@@ -2,7 +2,7 @@ ghost use Rattle.std.specs.Prelude.{◌≡◌, ◌++◌, [], ◌∷◌, OnOk, So
 ghost use Rattle.std.specs.Option.{option_copied};
 ghost use Rattle.std.specs.List.{slice_split};
 ghost use Rattle.wfs_ends.specs.Read.{GivesBut, each};
-ghost use Rattle.wfs_machine.specs.declared.fault.AskFault.TheVariants.{OutOfMemory};
+ghost use Rattle.wfs_model.specs.declared.fault.AskFault.TheVariants.{OutOfMemory};
 ghost use Rattle.kvp_queries.specs.Selection.{is_comma};
 ghost use Rattle.kvp_queries.specs.Sorting.{name_and_word, sortable, is_descending, key_of, next_key, keys_in, keys_of};
 
@@ -12,7 +12,7 @@ use feature_values::{FeatureType, Schema};
 use fes_filter::{SortKey, is_shape, property_in, type_in};
 use std::alloc::Global;
 use wfs_ends::{List, Mem, Text};
-use wfs_machine::{AskFault, refused};
+use wfs_model::{AskFault, refused};
 
 // A name, and the word behind the first space.
 #[tactic(auto, unfolding(crate::specs::Sorting::name_and_word))]

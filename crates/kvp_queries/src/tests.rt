@@ -7,7 +7,7 @@ use fes_filter::{Filter, IdRef, Query, SortKey};
 use geom_core::{Box2, Pos};
 use std::alloc::Global;
 use wfs_ends::{List, Mem, Text};
-use wfs_machine::{AskFault, Asked, Present, Request};
+use wfs_model::{AskFault, Asked, Present, Request};
 
 mod requests;
 mod selection;
@@ -159,8 +159,10 @@ fn add_present(line: &mut String, present: &Present) -> Mem<()> {
 fn asked_line(alloc: Global, present: &Present, asked: &[Asked]) -> Mem<String> {
     let mut line = String::new(alloc);
     for one in asked {
-        let Asked::Plain(query) = one;
-        add_query(&mut line, query)?;
+        match one {
+            Asked::Plain(query) => add_query(&mut line, query)?,
+            Asked::Stored { .. } => line.push_str("stored")?,
+        }
     }
     add_present(&mut line, present)?;
     Ok(line)
@@ -169,7 +171,7 @@ fn asked_line(alloc: Global, present: &Present, asked: &[Asked]) -> Mem<String> 
 fn request_line(alloc: Global, request: &Request) -> Mem<String> {
     match request {
         Request::GetFeatures(present, asked) => asked_line(alloc, present, asked.items()),
-        Request::Transact { .. } => Ok(String::from_str(alloc, "transaction")?),
+        _ => Ok(String::from_str(alloc, "another request")?),
     }
 }
 

@@ -6,8 +6,8 @@ use Rattle.std.proofs.lemmas.List.{append-nil, get_or-set_same, get_or-set_other
 use Rattle.std.proofs.lemmas.List.Quantifiers.{all_pairs_push}
 use Rattle.feature_values.specs.declared.feature.Feature.{Feature}
 use Rattle.feature_values.specs.declared.schema.Schema.{Schema}
-use Rattle.wfs_machine.specs.declared.request.Action.{Action}
-use Rattle.wfs_machine.specs.declared.request.Action.TheVariants.{Insert}
+use Rattle.wfs_model.specs.declared.action.Action.{Action}
+use Rattle.wfs_model.specs.declared.action.Action.TheVariants.{Insert, Update, Replace, Delete}
 use Rattle.wfs_machine.specs.Kept.{AreRows, IsRow, Extends, IsActionWithin}
 use Rattle.wfs_machine.specs.Step.{Acting, inserted, acted, IsActionOfTypes}
 use Rattle.wfs_machine.proofs.Rows.{all_nil, all_cons, all_head, all_tail, all_append, all_weaker}
@@ -96,6 +96,9 @@ inserted_all_keeps types handle at (f ∷ fs) h k = inserted_all_keeps types han
 
 acted_keeps : (types : ℕ) (at : Acting) (action : Action) → AreRows types at.features at.counters → IsActionWithin types action → AreRows types (acted at action).features (acted at action).counters
 acted_keeps types at (Insert handle features) h k = inserted_all_keeps types handle at features h k
+acted_keeps types at (Update handle kind sets filter) h k = absurd k
+acted_keeps types at (Replace handle feature filter) h k = absurd k
+acted_keeps types at (Delete kind filter) h k = absurd k
 
 pub all_acted_keep : (types : ℕ) (at : Acting) (actions : List Action) → AreRows types at.features at.counters → All (IsActionWithin types) actions → AreRows types (fold acted at actions).features (fold acted at actions).counters
 all_acted_keep types at [] h k = h
@@ -103,6 +106,9 @@ all_acted_keep types at (action ∷ actions) h k = all_acted_keep types (acted a
 
 of_types : (schema : Schema) (types : ℕ) (action : Action) → types ≡ length schema.types → IsActionOfTypes schema action → IsActionWithin types action
 of_types schema types (Insert handle features) e h = rw e h
+of_types schema types (Update handle kind sets filter) e h = absurd h
+of_types schema types (Replace handle feature filter) e h = absurd h
+of_types schema types (Delete kind filter) e h = absurd h
 
 pub all_of_types : (schema : Schema) (types : ℕ) (actions : List Action) → types ≡ length schema.types → All (IsActionOfTypes schema) actions → All (IsActionWithin types) actions
 all_of_types schema types actions e h = all_weaker (IsActionOfTypes schema) (IsActionWithin types) actions (λ action its. of_types schema types action e its) h

@@ -8,7 +8,7 @@ use Rattle.feature_values.specs.declared.feature.Feature.{Feature}
 use Rattle.feature_values.specs.declared.feature.Rid.{Rid}
 use Rattle.fes_filter.specs.View.{feature_at}
 use Rattle.query_core.specs.Selecting.{all_selected, selected_ids, joined, held, to_list}
-use Rattle.wfs_machine.specs.declared.request.Asked.{Asked}
+use Rattle.wfs_model.specs.declared.asked.Asked.{Asked}
 use Rattle.wfs_machine.specs.Read.{query_of}
 
 -- a fold over one element more

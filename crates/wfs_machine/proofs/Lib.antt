@@ -1,4 +1,3 @@
 pub mod Extending
 pub mod Folding
-pub mod Numerals
 pub mod Rows

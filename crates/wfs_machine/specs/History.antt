@@ -1,17 +1,11 @@
 -- A serial history of the service.
 use Rattle.std.specs.Prelude.{ℕ, ◌≤◌, List, [], ◌∷◌, take, ⊤}
 use Rattle.std.specs.List.{fold}
-use Rattle.wfs_machine.specs.declared.request.Entry.{Entry}
-use Rattle.wfs_machine.specs.declared.request.Request.{Request}
-use Rattle.wfs_machine.specs.declared.request.Request.TheVariants.{GetFeatures, Transact}
-use Rattle.wfs_machine.specs.declared.reply.Reply.{Reply}
+use Rattle.wfs_model.specs.declared.entry.Entry.{Entry}
+use Rattle.wfs_model.specs.declared.reply.Reply.{Reply}
+use Rattle.wfs_model.specs.Changing.{IsChange}
 use Rattle.wfs_machine.specs.State.{State, moment_in}
 use Rattle.wfs_machine.specs.Step.{step}
-
--- a request that may change the state
-abbrev pub IsChange : Request → Type 0
-IsChange (GetFeatures present asked) = ⊥
-IsChange (Transact actions) = ⊤
 
 -- the state that an entry leaves
 abbrev pub stepped : State → Entry → State

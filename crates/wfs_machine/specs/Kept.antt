@@ -2,10 +2,10 @@
 use Rattle.std.specs.Prelude.{◌≡◌, ℕ, ◌<◌, ◌≤◌, List, [], ◌++◌, length, All, get_or}
 use Rattle.std.specs.List.{AllPairs}
 use Rattle.feature_values.specs.declared.feature.Feature.{Feature}
-use Rattle.wfs_machine.specs.declared.reply.Made.{Made}
-use Rattle.wfs_machine.specs.declared.request.Action.{Action}
-use Rattle.wfs_machine.specs.declared.request.Action.TheVariants.{Insert}
-use Rattle.wfs_machine.specs.Read.{Page}
+use Rattle.wfs_model.specs.declared.reply.Made.{Made}
+use Rattle.wfs_model.specs.declared.action.Action.{Action}
+use Rattle.wfs_model.specs.declared.action.Action.TheVariants.{Insert}
+use Rattle.wfs_model.specs.Links.{Page}
 use Rattle.wfs_machine.specs.Step.{Acting}
 
 -- each number is below all later ones
@@ -48,3 +48,4 @@ page_at p = record { start = p.0; count = p.1 }
 -- each feature that comes in is of one of so many types
 abbrev pub IsActionWithin : ℕ → Action → Type 0
 IsActionWithin types (Insert handle features) = All (λ f. f.id.kind < types) features
+IsActionWithin types action = ⊥

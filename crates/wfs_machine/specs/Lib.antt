@@ -3,4 +3,3 @@ pub mod Kept
 pub mod Read
 pub mod State
 pub mod Step
-pub mod Terms

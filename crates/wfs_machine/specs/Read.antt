@@ -1,53 +1,18 @@
--- What a read answers (OGC 09-025r2, section 11), and the links of its pages (section 7.7.4.4). Where links stand is this project's own.
-use Rattle.std.specs.Prelude.{ℕ, ◌+◌, ◌-◌, ◌&&◌, nat_lt, if◌then◌else◌, List, [], ◌++◌, length, map, min, codes, decimal, Option, Some, None}
+-- What a query answers (OGC 09-025r2, section 11).
+use Rattle.std.specs.Prelude.{ℕ, List, [], map, None}
 use Rattle.feature_values.specs.declared.feature.Feature.{Feature}
-use Rattle.feature_values.specs.declared.feature.Rid.{Rid}
 use Rattle.fes_filter.specs.declared.query.Query.{Query}
-use Rattle.query_core.specs.Selecting.{all_selected, held}
-use Rattle.query_core.specs.Paging.{page_of}
-use Rattle.wfs_machine.specs.declared.request.Asked.{Asked}
-use Rattle.wfs_machine.specs.declared.request.Asked.TheVariants.{Plain}
-use Rattle.wfs_machine.specs.declared.request.Present.{Present}
-use Rattle.wfs_machine.specs.declared.reply.Reply.{Reply}
-use Rattle.wfs_machine.specs.declared.reply.Reply.TheVariants.{Collection}
+use Rattle.query_core.specs.Selecting.{all_selected}
+use Rattle.wfs_model.specs.declared.asked.Asked.{Asked}
+use Rattle.wfs_model.specs.declared.asked.Asked.TheVariants.{Plain, Stored}
+use Rattle.wfs_model.specs.declared.asked.Present.{Present}
+use Rattle.wfs_model.specs.declared.reply.Reply.{Reply}
+use Rattle.wfs_model.specs.Read.{presented}
 
--- the query that is asked
+-- the query that is asked; uses of stored queries are not served yet, and what stands for them here means nothing
 abbrev pub query_of : Asked → Query
 query_of (Plain query) = query
-
--- the link to a page, from the beginning that all links of a request have
-unfoldable pub page_link : List ℕ → ℕ → ℕ → List ℕ
-page_link link start count = (((link ++ codes "&startIndex=") ++ decimal start) ++ codes "&count=") ++ decimal count
-
--- where a page begins, and how many members it has at most
-pub record Page : Type 0 where
-  pub start : ℕ
-  pub count : ℕ
-
--- the page behind one that begins there and has at most so many members, where something is left for it
-unfoldable pub next_page : ℕ → Option ℕ → ℕ → Option Page
-next_page start None matched = None
-next_page start (Some count) matched =
-    if nat_lt 0 count && nat_lt (start + count) matched then Some (record { start = start + count; count = count }) else None
-
--- the page before one, where something stands before it
-unfoldable pub previous_page : ℕ → Option ℕ → Option Page
-previous_page start None = if nat_lt 0 start then Some (record { start = 0; count = start }) else None
-previous_page start (Some count) =
-    if nat_lt 0 count && nat_lt 0 start then Some (record { start = start - count; count = min count start }) else None
-
--- the link to a page; none where the request came otherwise than as a query of pairs, and where there is no such page
-unfoldable pub link_to : Option (List ℕ) → Option Page → Option (List ℕ)
-link_to (Some link) (Some page) = Some (page_link link page.start page.count)
-link_to link page = None
-
--- features that were selected, as they are presented: counted alone, or a page of them with its links
-unfoldable pub presented : List Feature → ℕ → Present → List Rid → Reply
-presented features moment present ids =
-    if present.hits then Collection moment (length ids) [] None None
-    else Collection moment (length ids) (held features (page_of present.start present.count ids))
-    (link_to present.link (next_page present.start present.count (length ids)))
-    (link_to present.link (previous_page present.start present.count))
+query_of (Stored id given) = record { kind = None; filter = None; sort = [] }
 
 -- the answer to what is asked of some features, at a moment, which is printed
 unfoldable pub collection : List Feature → ℕ → Present → List Asked → Reply

@@ -1,3 +1,5 @@
+//! The actions of a transaction, carried out on rows of features.
+
 ghost use Rattle.std.specs.Prelude.{◌≡◌, ◌+◌, ◌<◌, ◌++◌, ◌∷◌, [], IfOk, OnOk, OnErr, List, All, length, get_or, map, slice_set};
 ghost use Rattle.feature_values.specs.declared.feature.Feature.{Feature};
 ghost use Rattle.wfs_machine.specs.Kept.{Extends, IsActionWithin, acting};
@@ -5,10 +7,10 @@ ghost use Rattle.wfs_machine.specs.Step.{inserted, acted};
 ghost use Rattle.std.specs.List.{fold};
 
 use crate::row::Row;
-use crate::{Action, Made};
 use feature_values::{Feature, Rid};
 use std::alloc::Global;
 use wfs_ends::{Mem, OutOfMemory, Text};
+use wfs_model::{Action, Made};
 
 // An equal feature but for its id.
 fn copy_as(alloc: Global, feature: &Feature, id: Rid) -> Mem<Feature>
@@ -100,7 +102,7 @@ fn insert_all(
     Ok(())
 }
 
-// Carries out an action. Where memory runs out, some of its features may stand in their rows all the same.
+// Carries out an action; others than inserts are not served yet. Where memory runs out, some of its features may stand in their rows all the same.
 fn act(
     alloc: Global,
     rows: &mut [Row],
@@ -113,7 +115,9 @@ fn act(
     ensures ok { OnOk result (acting rows.new counters.new made.new.items ≡ acted (acting rows.old counters.old made.old.items) action.now) }
     ensures kept { Extends rows.old rows.new }
 {
-    let Action::Insert { handle, features } = action;
+    let Action::Insert { handle, features } = action else {
+        return Err(OutOfMemory);
+    };
     insert_all(alloc, rows, counters, made, handle, features.items())
 }
 

@@ -1,3 +1,5 @@
+//! Look-ups in rows of features.
+
 ghost use Rattle.std.specs.Prelude.{◌≡◌, ◌+◌, ◌<◌, ◌≤◌, IfOk, drop, slice_get, map, length};
 ghost use Rattle.std.specs.List.{AllWithin, find, flat_map};
 ghost use Rattle.std.specs.Option.{option_copied};

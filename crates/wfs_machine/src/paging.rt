@@ -1,14 +1,16 @@
+//! The pages before and behind one, and their links.
+
 ghost use Rattle.std.specs.Prelude.{◌≡◌, IfOk, ℕ};
 ghost use Rattle.std.specs.Option.{option_map};
 ghost use Rattle.wfs_machine.specs.Kept.{page_at};
-ghost use Rattle.wfs_machine.specs.Read.{next_page, previous_page, link_to};
+ghost use Rattle.wfs_model.specs.Links.{next_page, previous_page, link_to};
 
-use crate::link::page_link;
 use std::alloc::Global;
 use wfs_ends::{Mem, Text};
+use wfs_model::page_link;
 
 // Where the page behind one begins and how many members it has at most, where something is left for it.
-#[tactic(auto, unfolding(crate::specs::Read::next_page))]
+#[tactic(auto, unfolding(wfs_model::specs::Links::next_page))]
 pub fn next_page(start: u32, count: Option<u32>, matched: u64) -> Option<(u64, u64)>
     ensures { option_map page_at result ≡ next_page start count matched }
 {
@@ -22,7 +24,7 @@ pub fn next_page(start: u32, count: Option<u32>, matched: u64) -> Option<(u64, u
 }
 
 // The same of the page before one, where something stands before it.
-#[tactic(auto, unfolding(crate::specs::Read::previous_page))]
+#[tactic(auto, unfolding(wfs_model::specs::Links::previous_page))]
 pub fn previous_page(start: u32, count: Option<u32>) -> Option<(u64, u64)>
     ensures { option_map page_at result ≡ previous_page start count }
 {
@@ -41,7 +43,7 @@ pub fn previous_page(start: u32, count: Option<u32>) -> Option<(u64, u64)>
 }
 
 // The link to a page, where there is such a page and links have a beginning.
-#[tactic(auto, unfolding(crate::specs::Read::link_to))]
+#[tactic(auto, unfolding(wfs_model::specs::Links::link_to))]
 pub fn link_to(alloc: Global, link: &Option<Text>, page: Option<(u64, u64)>) -> Mem<Option<Text>>
     ensures { IfOk result (λ text. text ≡ link_to link.now (option_map page_at page)) }
 {

@@ -1,13 +1,15 @@
+//! The plain machine.
+
 ghost use Rattle.std.specs.Prelude.{◌≡◌, IfOk, OnErr};
 
 use crate::acting::transact;
 use crate::reading::{all_selected, presented};
 use crate::row::Row;
-use crate::{Entry, Reply, Request};
 use feature_values::{Feature, Schema};
 use std::alloc::Global;
 use std::marker::Model;
 use wfs_ends::{List, Mem, OutOfMemory};
+use wfs_model::{Entry, Reply, Request};
 
 // A moment that is handed in counts as this one at the most.
 const LAST_MOMENT: u64 = 200_000_000_000;
@@ -39,7 +41,7 @@ impl Model for Plain {
 
 impl Plain {
     ghost use Rattle.wfs_machine.specs.State.{opened, moment_in};
-    ghost use Rattle.wfs_machine.specs.History.{IsChange};
+    ghost use Rattle.wfs_model.specs.Changing.{IsChange};
     ghost use Rattle.wfs_machine.specs.Step.{step, read, IsOfTypes};
     ghost use Rattle.wfs_machine.specs.Kept.{IsRow, AreRows};
     ghost use Rattle.std.specs.Prelude.{length, get_or, []};
@@ -103,7 +105,7 @@ impl Plain {
         ensures err { OnErr result (self.new ≡ self.old) }
         ensures schema { self.new.schema ≡ self.old.schema }
     {
-        let Request::Transact { actions } = &entry.request else {
+        let Request::Transact { actions, .. } = &entry.request else {
             return Err(OutOfMemory);
         };
         let moment = self.moment_of(entry.moment);

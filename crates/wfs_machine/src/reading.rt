@@ -1,26 +1,22 @@
+//! What queries answer.
+
 ghost use Rattle.std.specs.Prelude.{◌≡◌, ◌++◌, ◌<◌, IfOk, OnOk, map};
 ghost use Rattle.std.specs.Option.{option_copied};
 ghost use Rattle.query_core.specs.Selecting.{all_selected, held, to_list};
-ghost use Rattle.wfs_machine.specs.Read.{query_of, presented};
+ghost use Rattle.wfs_machine.specs.Read.{query_of};
+ghost use Rattle.wfs_model.specs.Read.{presented};
 ghost use Rattle.wfs_machine.specs.State.{all_features};
 
+use crate::Plain;
 use crate::paging::{link_to, next_page, previous_page};
-use crate::{Asked, Plain, Present, Reply};
 use feature_values::{Feature, Rid};
-use fes_filter::{FeatureView, Query, Steps};
+use fes_filter::{FeatureView, Steps};
 use query_core::{join_rows, page, select};
 use std::alloc::Global;
 use std::marker::Brand;
 use std::sync::ledger::{Blank, Ledger};
-use wfs_ends::{List, Mem};
-
-// The query that is asked.
-fn query_of(asked: &Asked) -> &Query
-    ensures { result.now ≡ query_of asked.now }
-{
-    let Asked::Plain(query) = asked;
-    query
-}
+use wfs_ends::{List, Mem, OutOfMemory};
+use wfs_model::{Asked, Present, Reply};
 
 // The identifiers of what is asked, each at its first place. The ledger counts the steps.
 fn selected_under<L: Ledger>(
@@ -37,7 +33,11 @@ fn selected_under<L: Ledger>(
     let mut steps = Steps::<L>::new(blank);
     let mut ids = List::of(Vec::new(alloc));
     for one in asked {
-        let more = select(alloc, machine, query_of(one), &mut steps)?;
+        // uses of stored queries are not served yet
+        let Asked::Plain(query) = one else {
+            return Err(OutOfMemory);
+        };
+        let more = select(alloc, machine, query, &mut steps)?;
         ids = join_rows(alloc, ids, more)?;
     }
     Ok(ids)
@@ -72,7 +72,7 @@ fn held(machine: &Plain, alloc: Global, ids: &[Rid]) -> Mem<List<Feature>>
 }
 
 /// What was selected, as it is presented.
-#[tactic(auto, unfolding(crate::specs::Read::presented))]
+#[tactic(auto, unfolding(wfs_model::specs::Read::presented))]
 pub fn presented(
     machine: &Plain,
     alloc: Global,
@@ -88,6 +88,7 @@ pub fn presented(
             moment,
             matched,
             features: List::of(Vec::new(alloc)),
+            lock: None,
             next: None,
             previous: None,
         });
@@ -100,6 +101,7 @@ pub fn presented(
         moment,
         matched,
         features,
+        lock: None,
         next: link_to(alloc, &present.link, next)?,
         previous: link_to(alloc, &present.link, previous)?,
     })

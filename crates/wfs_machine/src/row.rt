@@ -1,3 +1,5 @@
+//! The features of one type.
+
 ghost use Rattle.std.specs.Prelude.{◌≡◌, ◌++◌, ◌∷◌, [], take, IfOk, OnOk, OnErr};
 
 use feature_values::Feature;

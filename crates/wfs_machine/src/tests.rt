@@ -1,13 +1,14 @@
-//! The steps of the machine and the links of pages, with ample memory, and values that stand in requests.
+//! The steps of the machine and the links of pages, with ample memory.
 ghost use Rattle.std.specs.Prelude.{◌≡◌, ◌<◌, ◌∷◌, [], All, IfOk, length};
 ghost use Rattle.wfs_machine.specs.Kept.{IsActionWithin};
 
+use crate::Plain;
 use crate::paging::{link_to, next_page, previous_page};
-use crate::{Action, Entry, Made, Plain, Reply, Request, is_format, page_link, read_count};
 use feature_values::{Feature, FeatureType, Rid, Schema};
 use std::alloc::Global;
 use std::test::Fail;
 use wfs_ends::{List, Mem, Text};
+use wfs_model::{Action, Entry, Made, Release, Reply, Request, page_link};
 
 fn feature_type(alloc: Global, name: &str) -> Mem<FeatureType> {
     Ok(FeatureType {
@@ -88,7 +89,11 @@ fn insert(alloc: Global, machine: &mut Plain, kind: u32, moment: u64) -> Mem<Rep
         seat: 0,
         moment,
         size: 1,
-        request: Request::Transact { actions },
+        request: Request::Transact {
+            lock: None,
+            release: Release::Whole,
+            actions,
+        },
     };
     machine.step(&entry)
 }
@@ -126,17 +131,5 @@ fn a_page_past_the_end_links_back_alone(rt: HostRuntime) -> Result<(), Fail> {
     assert!(rt; previous_page(2, Some(5)) == Some((0, 2)));
     assert!(rt; next_page(2, Some(5), 2).is_none());
     assert!(rt; link_to(alloc, &None, previous_page(2, Some(5)))?.is_none());
-    Ok(())
-}
-
-#[test]
-fn counts_are_digits_of_32_bits(rt: HostRuntime) -> Result<(), Fail> {
-    assert!(rt; read_count("4294967295") == Some(4_294_967_295));
-    assert!(rt; read_count("007") == Some(7));
-    assert!(rt; read_count("4294967296").is_none());
-    assert!(rt; read_count("+1").is_none());
-    assert!(rt; read_count("").is_none());
-    assert!(rt; is_format("text/xml; subtype=gml/3.2"));
-    assert!(rt; !is_format("text/xml"));
     Ok(())
 }

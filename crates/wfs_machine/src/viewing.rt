@@ -1,3 +1,5 @@
+//! The machine as a view of its features.
+
 ghost use Rattle.std.specs.Prelude.{◌≡◌};
 
 use crate::Plain;

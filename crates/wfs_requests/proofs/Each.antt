@@ -3,7 +3,7 @@ use Rattle.std.proofs.Common.{◌≡◌, ℕ, ◌+◌, ◌<◌, ◌≤◌, Bool,
 use Rattle.std.proofs.lemmas.List.{drop_more, at_drop_all}
 use Rattle.wfs_ends.specs.Read.{◌>>=◌, FailsBut}
 use Rattle.feature_values.specs.declared.schema.Property.{Property}
-use Rattle.wfs_machine.specs.declared.fault.AskFault.{AskFault}
+use Rattle.wfs_model.specs.declared.fault.AskFault.{AskFault}
 use Rattle.wfs_requests.specs.Features.{one_met, all_met}
 
 pub met_end : (ps : List Property) (ms : List Bool) (i : ℕ) → length ps ≤ i → all_met (drop i ps) (drop i ms) ≡ Ok tt

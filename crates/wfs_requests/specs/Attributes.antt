@@ -8,8 +8,8 @@ use Rattle.doc_tree.specs.declared.tree.Attribute.{Attribute}
 use Rattle.doc_tree.specs.declared.tree.Element.{Element, out-Element}
 use Rattle.doc_attributes.specs.Names.{value_at}
 use Rattle.doc_attributes.specs.Others.{first_other}
-use Rattle.wfs_machine.specs.declared.fault.AskFault.{AskFault}
-use Rattle.wfs_machine.specs.Terms.{refused, is_version, is_format, is_listed}
+use Rattle.wfs_model.specs.declared.fault.AskFault.{AskFault}
+use Rattle.wfs_model.specs.Terms.{refused, is_version, is_format, is_listed}
 
 -- what is read, or why it is refused
 abbrev pub Ask : Type 0 → Type 0

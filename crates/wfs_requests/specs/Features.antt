@@ -19,8 +19,8 @@ use Rattle.feature_values.specs.declared.feature.Feature.{Feature}
 use Rattle.feature_values.specs.Fits.{is_of_kind}
 use Rattle.feature_values.specs.Ids.{type_named, property_named}
 use Rattle.feature_values.specs.Reads.{reads}
-use Rattle.wfs_machine.specs.declared.fault.AskFault.{AskFault}
-use Rattle.wfs_machine.specs.Terms.{refused}
+use Rattle.wfs_model.specs.declared.fault.AskFault.{AskFault}
+use Rattle.wfs_model.specs.Terms.{refused}
 use Rattle.wfs_requests.specs.Attributes.{Ask, local_of, attributes_of, no_others}
 
 -- ---- one value

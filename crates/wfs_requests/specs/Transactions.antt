@@ -1,6 +1,6 @@
 -- Requests as documents: what is read so far is a transaction of inserts (OGC 09-025r2, section 15.2). What is not built
 -- yet is refused as such where judging in order meets it.
-use Rattle.std.specs.Prelude.{ℕ, ◌==◌, Bool, ◌&&◌, if◌then◌else◌, List, [], ◌∷◌, ◌++◌, length, codes, Result, Ok, Err}
+use Rattle.std.specs.Prelude.{ℕ, ◌==◌, Bool, ◌&&◌, if◌then◌else◌, List, [], ◌∷◌, ◌++◌, length, codes, None, Result, Ok, Err}
 use Rattle.std.specs.Str.{bytes_eq}
 use Rattle.wfs_ends.specs.Read.{◌>>=◌, each, unless}
 use Rattle.doc_tree.specs.declared.tree.Attribute.{Attribute}
@@ -8,11 +8,12 @@ use Rattle.doc_tree.specs.declared.tree.Element.{Element, out-Element}
 use Rattle.doc_attributes.specs.Names.{is_name, is_among}
 use Rattle.feature_values.specs.declared.schema.Schema.{Schema}
 use Rattle.feature_values.specs.declared.feature.Feature.{Feature}
-use Rattle.wfs_machine.specs.declared.request.Action.{Action}
-use Rattle.wfs_machine.specs.declared.request.Action.TheVariants.{Insert}
-use Rattle.wfs_machine.specs.declared.request.Request.{Request}
-use Rattle.wfs_machine.specs.declared.request.Request.TheVariants.{Transact}
-use Rattle.wfs_machine.specs.Terms.{refused}
+use Rattle.wfs_model.specs.declared.action.Action.{Action}
+use Rattle.wfs_model.specs.declared.action.Action.TheVariants.{Insert}
+use Rattle.wfs_model.specs.declared.request.Request.{Request}
+use Rattle.wfs_model.specs.declared.request.Request.TheVariants.{Transact}
+use Rattle.lock_table.specs.declared.words.Release.TheVariants.{Whole}
+use Rattle.wfs_model.specs.Terms.{refused}
 use Rattle.wfs_requests.specs.Attributes.{Ask, local_of, attributes_of, value_in, service_at, version_at, release_at, format_at, srs_at, not_built, unbuilt_at, no_others}
 use Rattle.wfs_requests.specs.Features.{feature_of}
 
@@ -86,7 +87,7 @@ transaction_of schema e = do
   _ ← srs_at schema.srs (attributes_of e)
   _ ← transaction_others (attributes_of e)
   actions ← each (next_action schema) [] (out-Element e).children
-  Ok (Transact actions)
+  Ok (Transact None Whole actions)
 
 -- ---- requests
 

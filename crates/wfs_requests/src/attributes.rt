@@ -7,7 +7,7 @@ use doc_attributes::{first_other, value_at};
 use doc_tree::Attribute;
 use std::alloc::Global;
 use wfs_ends::{Mem, Text};
-use wfs_machine::{AskFault, is_format, is_listed, is_version, refused};
+use wfs_model::{AskFault, is_format, is_listed, is_version, refused};
 
 // ---- listed attributes
 

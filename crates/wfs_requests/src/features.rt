@@ -11,7 +11,7 @@ use doc_tree::Element;
 use feature_values::{Feature, FeatureType, Property, Rid, Schema, Value};
 use std::alloc::Global;
 use wfs_ends::{List, Mem, Text};
-use wfs_machine::{AskFault, refused};
+use wfs_model::{AskFault, refused};
 
 // The namespace of GML 3.2.
 const GML: &str = "http://www.opengis.net/gml/3.2";

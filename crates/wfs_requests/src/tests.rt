@@ -9,7 +9,7 @@ use feature_values::{Feature, FeatureType, Property, Rid, Schema, Value, ValueKi
 use geom_core::{Geometry, Pos};
 use std::alloc::Global;
 use wfs_ends::{List, Mem, Text};
-use wfs_machine::{Action, AskFault, Request};
+use wfs_model::{Action, AskFault, Release, Request};
 
 // ---- trees
 
@@ -404,6 +404,8 @@ fn inserts(alloc: Global, kind: u32, features: &str) -> Mem<Request> {
         features: List::of(all),
     })?;
     Ok(Request::Transact {
+        lock: None,
+        release: Release::Whole,
         actions: List::of(actions),
     })
 }

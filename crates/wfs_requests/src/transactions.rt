@@ -13,7 +13,7 @@ use doc_tree::{Attribute, Element};
 use feature_values::{Feature, Schema};
 use std::alloc::Global;
 use wfs_ends::{List, Mem};
-use wfs_machine::{Action, AskFault, Request, refused};
+use wfs_model::{Action, AskFault, Release, Request, refused};
 
 // The namespace of the Web Feature Service 2.0.
 const WFS: &str = "http://www.opengis.net/wfs/2.0";
@@ -199,6 +199,8 @@ fn transaction_of(alloc: Global, schema: &Schema, element: &Element) -> Result<R
     transaction_others(alloc, attributes)?;
     let actions = actions_of(alloc, schema, element.children.items())?;
     Ok(Request::Transact {
+        lock: None,
+        release: Release::Whole,
         actions: List::of(actions),
     })
 }

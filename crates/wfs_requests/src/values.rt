@@ -10,7 +10,7 @@ use feature_values::{Property, Value, ValueFault, ValueKind, is_of_kind, read_va
 use gml_docs::{GmlFault, read_geometry};
 use std::alloc::Global;
 use wfs_ends::{List, Text};
-use wfs_machine::{AskFault, refused};
+use wfs_model::{AskFault, refused};
 
 // The namespace of attributes for instances of XML Schema.
 const INSTANCE: &str = "http://www.w3.org/2001/XMLSchema-instance";

@@ -5,10 +5,10 @@ use Rattle.wfs_ends.specs.Ends.{Shown, later}
 use Rattle.wfs_ends.specs.declared.fault.WriteFault.{WriteFault}
 use Rattle.http_session.specs.declared.message.Message.{Message}
 use Rattle.feature_values.specs.declared.schema.Schema.{Schema}
-use Rattle.wfs_machine.specs.declared.reply.Reply.{Reply}
-use Rattle.wfs_machine.specs.declared.request.Request.{Request}
-use Rattle.wfs_machine.specs.declared.request.Request.TheVariants.{GetFeatures, Transact}
-use Rattle.wfs_machine.specs.declared.fault.AskFault.{AskFault}
+use Rattle.wfs_model.specs.declared.reply.Reply.{Reply}
+use Rattle.wfs_model.specs.declared.request.Request.{Request}
+use Rattle.wfs_model.specs.declared.request.Request.TheVariants.{Capabilities, DescribeTypes, GetFeatures, GetValues, GetLocked, Lock, Renew, Transact, ListStored, DescribeStored, CreateStored, DropStored}
+use Rattle.wfs_model.specs.declared.fault.AskFault.{AskFault}
 use Rattle.reply_documents.specs.ReplyText.{reply_text}
 use Rattle.reply_documents.specs.Refusals.{fixed_text}
 use Rattle.wfsd.specs.declared.ending.SessionEnd.{SessionEnd}
@@ -18,8 +18,18 @@ use Rattle.wfsd.specs.Rounds.{GivesAnswer, Replies}
 
 carried_keeps : (served : Served) (m : Message) (moment : ℕ) (request : Request) → (carried served m moment request).served.schema ≡ served.schema
 unfolding carried
+carried_keeps served m moment Capabilities = refl
+carried_keeps served m moment (DescribeTypes kinds) = refl
 carried_keeps served m moment (GetFeatures present asked) = refl
-carried_keeps served m moment (Transact actions) = refl
+carried_keeps served m moment (GetValues present asked property) = refl
+carried_keeps served m moment (GetLocked present asked take period) = refl
+carried_keeps served m moment (Lock asked take period) = refl
+carried_keeps served m moment (Renew lock period) = refl
+carried_keeps served m moment (Transact lock release actions) = refl
+carried_keeps served m moment ListStored = refl
+carried_keeps served m moment (DescribeStored ids) = refl
+carried_keeps served m moment (CreateStored queries) = refl
+carried_keeps served m moment (DropStored id) = refl
 
 by_keeps : (served : Served) (m : Message) (moment : ℕ) (r : Result Request AskFault) → (judged_by served m moment r).served.schema ≡ served.schema
 by_keeps served m moment (Ok request) = carried_keeps served m moment request

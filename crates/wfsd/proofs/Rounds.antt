@@ -1,7 +1,7 @@
 -- What a round comes to, by what the reader answered and by what was given then.
 use Rattle.std.proofs.Common.{◌≡◌, ℕ, ◌-◌, ◌≤◌, Bool, true, false, List, [], ◌++◌, Option, Some, None, Result, Ok, Err, inl, inr, refl, sym, ap, ◌∙◌, arith, append_assoc}
 use Rattle.std.specs.Prelude.{◌==◌, ◌||◌, IfSome}
-use Rattle.wfs_ends.specs.Ends.{Shown, KeepsLeft, GivesAll, GivesFront, given_more, later_of, later}
+use Rattle.wfs_ends.specs.Ends.{Given, Shown, KeepsLeft, GivesAll, GivesFront, given_more, later_of, later}
 use Rattle.wfs_ends.specs.declared.fault.WriteFault.{WriteFault}
 use Rattle.wfs_ends.proofs.Given.{given_twice}
 use Rattle.http_session.specs.declared.message.Ending.{Ending}
@@ -54,13 +54,13 @@ answer_cause served m last moment a e old new (inr is) h = end_cause false (m.cl
 
 -- ---- what was given
 
-given_thrice : (first : Option (List ℕ)) (a b c : List ℕ) → given_more (given_more (given_more first a) b) c ≡ given_more first (a ++ (b ++ c))
+given_thrice : (first : Given) (a b c : List ℕ) → given_more (given_more (given_more first a) b) c ≡ given_more first (a ++ (b ++ c))
 given_thrice first a b c = ap (λ o. given_more o c) (given_twice first a b) ∙ given_twice first (a ++ b) c ∙ ap (given_more first) (append_assoc a b c)
 
-given_behind : (first old mid new : Option (List ℕ)) (a b c : List ℕ) → old ≡ given_more first a → mid ≡ given_more old b → new ≡ given_more mid c → new ≡ given_more first (a ++ (b ++ c))
+given_behind : (first old mid new : Given) (a b c : List ℕ) → old ≡ given_more first a → mid ≡ given_more old b → new ≡ given_more mid c → new ≡ given_more first (a ++ (b ++ c))
 given_behind first old mid new a b c e f g = g ∙ ap (λ o. given_more o c) (f ∙ ap (λ o. given_more o b) e) ∙ given_thrice first a b c
 
-given_line : (first old new : Option (List ℕ)) (a b : List ℕ) → old ≡ given_more first a → new ≡ given_more old b → new ≡ given_more first (a ++ b)
+given_line : (first old new : Given) (a b : List ℕ) → old ≡ given_more first a → new ≡ given_more old b → new ≡ given_more first (a ++ b)
 given_line first old new a b e f = f ∙ ap (λ o. given_more o b) e ∙ given_twice first a b
 
 -- a front of what comes behind two other texts
@@ -77,7 +77,7 @@ behind p due rest a = record { bytes = rest; moments = later_of p.moments; serve
 
 module _ (served : Served) (last : Bool) (b : List ℕ) (s0 : Shown) (m : Message) (b' : List ℕ) (s1 : Shown) (c : Option (List ℕ)) (reads : Reads b s0 (next.Message m) b' s1) where
   module _ (r : Result (Option SessionEnd) WriteFault) (served' : Served) (c' : Option (List ℕ)) (s2 : Shown) (replies : Replies served m last c s1 r served' c' s2) where
-    module _ (first : Option (List ℕ)) (p : Point) (left : ℕ) (is_last : (left == 1) ≡ last) (at : IsAt first p b s0 c served left) where
+    module _ (first : Given) (p : Point) (left : ℕ) (is_last : (left == 1) ≡ last) (at : IsAt first p b s0 c served left) where
       found : Answers (IsNext p.bytes) reads.due (next.Message m) (ahead b' s1)
       found = rw at.bytes at reads.answers
 

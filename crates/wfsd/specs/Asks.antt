@@ -8,9 +8,9 @@ use Rattle.doc_read.specs.declared.fault.DocFault.{DocFault}
 use Rattle.doc_read.specs.Document.{document}
 use Rattle.http_session.specs.declared.message.Message.{Message}
 use Rattle.feature_values.specs.declared.schema.Schema.{Schema}
-use Rattle.wfs_machine.specs.declared.request.Request.{Request}
-use Rattle.wfs_machine.specs.declared.fault.AskFault.{AskFault}
-use Rattle.wfs_machine.specs.Terms.{refused}
+use Rattle.wfs_model.specs.declared.request.Request.{Request}
+use Rattle.wfs_model.specs.declared.fault.AskFault.{AskFault}
+use Rattle.wfs_model.specs.Terms.{refused}
 use Rattle.wfs_requests.specs.Transactions.{request_of}
 use Rattle.kvp_queries.specs.Request.{asked_of}
 

@@ -1,6 +1,6 @@
 -- What a round of a session does.
 use Rattle.std.specs.Prelude.{◌≡◌, ℕ, ◌-◌, ◌==◌, Bool, true, false, List, Option, Some, None, IfSome, Result, Ok, Err, slice_get}
-use Rattle.wfs_ends.specs.Ends.{Shown, GivesAll, GivesFront, later}
+use Rattle.wfs_ends.specs.Ends.{Given, Shown, GivesAll, GivesFront, later}
 use Rattle.wfs_ends.specs.declared.fault.WriteFault.{WriteFault}
 use Rattle.http_session.specs.declared.message.Message.{Message}
 use Rattle.reply_documents.specs.Refusals.{fixed_text}
@@ -27,7 +27,7 @@ pub record Replies (served : Served) (m : Message) (last : Bool) (moments : Opti
   pub later : moments' ≡ later moments
 
 -- what holds behind a round
-abbrev pub HasGone : Option (List ℕ) → Point → Round → List ℕ → Shown → Option (List ℕ) → Served → ℕ → Type 0
+abbrev pub HasGone : Given → Point → Round → List ℕ → Shown → Option (List ℕ) → Served → ℕ → Type 0
 HasGone first p round.On buffered shown moments served left = GoesOn first p buffered shown moments served left
 HasGone first p (round.Over e) buffered shown moments served left = IsOver first p e shown served
 
@@ -39,7 +39,7 @@ RoundCause (round.Over e) last old new = HasCause e old new
 pub record IsRound (last : Bool) (old : List ℕ) (before : Shown) (moments : Option (List ℕ)) (served : Served) (r : Round) (new : List ℕ) (after : Shown) (moments' : Option (List ℕ)) (served' : Served) : Type 0 where
   pub stays : Stays before after
   pub cause : RoundCause r last before after
-  pub told : (first : Option (List ℕ)) (p : Point) (left : ℕ) → (left == 1) ≡ last → IsAt first p old before moments served left → HasGone first p r new after moments' served' (left - 1)
+  pub told : (first : Given) (p : Point) (left : ℕ) → (left == 1) ≡ last → IsAt first p old before moments served left → HasGone first p r new after moments' served' (left - 1)
 
 -- what an answer comes to
 abbrev pub round_of : Result (Option SessionEnd) WriteFault → Round

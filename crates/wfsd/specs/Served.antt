@@ -2,14 +2,14 @@
 use Rattle.std.specs.Prelude.{◌≡◌, ℕ, ◌⊎◌, min, Bool, false, ◌||◌, ◌==◌, if◌then◌else◌, List, [], ◌∷◌, ◌++◌, length, codes, Option, Some, None, Result, Ok, Err}
 use Rattle.http_session.specs.declared.message.Message.{Message}
 use Rattle.feature_values.specs.declared.schema.Schema.{Schema}
-use Rattle.wfs_machine.specs.declared.request.Entry.{Entry}
-use Rattle.wfs_machine.specs.declared.request.Request.{Request}
-use Rattle.wfs_machine.specs.declared.request.Request.TheVariants.{GetFeatures, Transact}
-use Rattle.wfs_machine.specs.declared.reply.Refusal.{Refusal}
-use Rattle.wfs_machine.specs.declared.reply.Reply.{Reply}
-use Rattle.wfs_machine.specs.declared.reply.Reply.TheVariants.{Refused}
-use Rattle.wfs_machine.specs.declared.fault.AskFault.{AskFault}
-use Rattle.wfs_machine.specs.declared.fault.AskFault.TheVariants as ask
+use Rattle.wfs_model.specs.declared.entry.Entry.{Entry}
+use Rattle.wfs_model.specs.declared.request.Request.{Request}
+use Rattle.wfs_model.specs.declared.request.Request.TheVariants.{GetLocked, Lock, Renew, Transact, CreateStored, DropStored}
+use Rattle.wfs_model.specs.declared.reply.Refusal.{Refusal}
+use Rattle.wfs_model.specs.declared.reply.Reply.{Reply}
+use Rattle.wfs_model.specs.declared.reply.Reply.TheVariants.{Refused}
+use Rattle.wfs_model.specs.declared.fault.AskFault.{AskFault}
+use Rattle.wfs_model.specs.declared.fault.AskFault.TheVariants as ask
 use Rattle.wfs_machine.specs.State.{State, first_state}
 use Rattle.wfs_machine.specs.Step.{read}
 use Rattle.wfs_machine.specs.History.{after_all, timed, reply_after}
@@ -50,10 +50,19 @@ pub record Judged : Type 0 where
 abbrev pub entered : Served → Entry → Judged
 entered served entry = record { reply = reply_after (opening_of served.schema) served.entries entry; served = with_entry served entry }
 
--- A changing request is taken up as an entry, at its moment in the history. A read is answered by the state, and takes up none.
+-- a changing request as an entry, at its moment in the history
+abbrev pub taken_up : Served → Message → ℕ → Request → Judged
+taken_up served m moment request = entered served (timed (state_of served) (entry_of request m moment))
+
+-- A changing request is taken up as an entry. A read is answered by the state, and takes up none.
 unfoldable pub carried : Served → Message → ℕ → Request → Judged
-carried served m moment (GetFeatures present asked) = record { reply = read (state_of served) moment (GetFeatures present asked); served = served }
-carried served m moment (Transact actions) = entered served (timed (state_of served) (entry_of (Transact actions) m moment))
+carried served m moment (GetLocked present asked take period) = taken_up served m moment (GetLocked present asked take period)
+carried served m moment (Lock asked take period) = taken_up served m moment (Lock asked take period)
+carried served m moment (Renew lock period) = taken_up served m moment (Renew lock period)
+carried served m moment (Transact lock release actions) = taken_up served m moment (Transact lock release actions)
+carried served m moment (CreateStored queries) = taken_up served m moment (CreateStored queries)
+carried served m moment (DropStored id) = taken_up served m moment (DropStored id)
+carried served m moment request = record { reply = read (state_of served) moment request; served = served }
 
 abbrev pub refusal_of : AskFault → Refusal
 refusal_of (ask.Refused refusal) = refusal

@@ -1,6 +1,6 @@
 -- What a session over one input and one output comes to.
 use Rattle.std.specs.Prelude.{◌≡◌, ℕ, ◌-◌, ◌≤◌, ◌==◌, Bool, true, List, [], ◌++◌, Option, Some, None, IfSome, slice_get, ⊤}
-use Rattle.wfs_ends.specs.Ends.{Shown, Rose, given_more, later_of}
+use Rattle.wfs_ends.specs.Ends.{Given, Shown, Rose, given_more, later_of}
 use Rattle.http_session.specs.declared.message.Ending.{Ending}
 use Rattle.http_session.specs.declared.message.Ending.TheVariants as ending
 use Rattle.http_session.specs.declared.message.Message.{Message}
@@ -136,7 +136,7 @@ pub record IsSession (moments : Option (List ℕ)) (served : Served) (old : Show
 -- ---- rounds
 
 -- the reader, the link, the clock and the service stand at a point of a session, behind what was given before it
-pub record IsAt (first : Option (List ℕ)) (p : Point) (buffered : List ℕ) (shown : Shown) (moments : Option (List ℕ)) (served : Served) (left : ℕ) : Type 0 where
+pub record IsAt (first : Given) (p : Point) (buffered : List ℕ) (shown : Shown) (moments : Option (List ℕ)) (served : Served) (left : ℕ) : Type 0 where
   pub bytes : ahead buffered shown ≡ Some p.bytes
   pub coming : moments ≡ Some p.moments
   pub serves : served ≡ p.served
@@ -144,14 +144,14 @@ pub record IsAt (first : Option (List ℕ)) (p : Point) (buffered : List ℕ) (s
   pub remains : left ≡ p.left
 
 -- where a round leads: on to the next point, or to an end
-pub record GoesOn (first : Option (List ℕ)) (p : Point) (buffered : List ℕ) (shown : Shown) (moments : Option (List ℕ)) (served : Served) (left : ℕ) : Type 0 where
+pub record GoesOn (first : Given) (p : Point) (buffered : List ℕ) (shown : Shown) (moments : Option (List ℕ)) (served : Served) (left : ℕ) : Type 0 where
   pub answer : Answer
   pub to : Point
   pub answered : IsAnswered p answer to
   pub unended : answer.ends ≡ None
   pub at : IsAt first to buffered shown moments served left
 
-pub record IsOver (first : Option (List ℕ)) (p : Point) (e : SessionEnd) (shown : Shown) (served : Served) : Type 0 where
+pub record IsOver (first : Given) (p : Point) (e : SessionEnd) (shown : Shown) (served : Served) : Type 0 where
   pub final : Final
   pub finishes : Finishes p final
   pub end : final.end ≡ e

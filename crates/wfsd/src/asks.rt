@@ -10,7 +10,7 @@ use http_session::Message;
 use kvp_queries::read_query;
 use percent_encoding::percent_decode;
 use std::alloc::Global;
-use wfs_machine::{AskFault, Request, refused};
+use wfs_model::{AskFault, Request, refused};
 use wfs_requests::read_request;
 
 // Whether a path is the one of the service, once it is decoded.

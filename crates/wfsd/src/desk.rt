@@ -7,7 +7,8 @@ use http_session::Message;
 use std::alloc::Global;
 use std::marker::Model;
 use wfs_ends::{Mem, OutOfMemory};
-use wfs_machine::{AskFault, Entry, Plain, Refusal, Reply, Request};
+use wfs_machine::Plain;
+use wfs_model::{AskFault, Entry, Reply, Request};
 
 /// The service of one process: the machine, and the history of the entries that it took. Contracts
 /// see it as its schema and that history, over the state of the first opening; the machine is
@@ -38,7 +39,8 @@ impl Model for Desk {
 impl Desk {
     ghost use Rattle.std.specs.Prelude.{[]};
     ghost use Rattle.wfs_machine.specs.Step.{IsOfTypes, read};
-    ghost use Rattle.wfs_machine.specs.History.{IsChange, timed};
+    ghost use Rattle.wfs_machine.specs.History.{timed};
+    ghost use Rattle.wfs_model.specs.Changing.{IsChange};
     ghost use Rattle.wfsd.specs.Served.{Served, Judged, state_of, entered, entry_of, carried, judged};
 
     /// The service of the first opening, with no entry.

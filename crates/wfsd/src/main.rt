@@ -55,5 +55,5 @@ fn schema_path(alloc: Global, directory: &str) -> Mem<Text> {
     let mut path = String::new(alloc);
     path.push_str(directory)?;
     path.push_str("/schema.toml")?;
-    Ok(Text::of_string(path))
+    Text::of_string(path)
 }

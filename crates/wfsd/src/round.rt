@@ -14,7 +14,7 @@ use http_session::{Message, Next, Reader};
 use reply_documents::{put_fixed, put_reply};
 use std::alloc::Global;
 use wfs_ends::{Buffer, Buffered, Clock, Link, OutOfMemory, Sink, WriteFault};
-use wfs_machine::Reply;
+use wfs_model::Reply;
 
 /// What a round came to.
 #[derive(Debug, Drop)]
@@ -98,7 +98,7 @@ fn is_not_built(reply: &Reply) -> bool
 {
     match reply {
         Reply::Refused(refusal) => refusal.row == 99,
-        Reply::Collection { .. } | Reply::Transacted { .. } => false,
+        _ => false,
     }
 }
 
