@@ -1,3 +1,5 @@
+//! What a crash leaves of a disk.
+
 ghost use Rattle.std.specs.Prelude.{◌≡◌, ◌≤◌, ◌<◌, ◌+◌, ◌^◌, ◌∷◌, ℕ, List, length, vec_capacity};
 ghost use Rattle.std.specs.List.{AllByRecursion};
 ghost use Rattle.disk_core.specs.Story.{Step, read_after, read_after_all};

@@ -1,3 +1,5 @@
+//! A disk: a file that is read, written, cut and synced.
+
 ghost use Rattle.std.specs.Prelude.{◌≡◌, ◌≤◌, ◌-◌, ℕ, List, Option, length, take, drop, min, Some, None, IfOk, OnOk, IfSome, OnErr};
 ghost use Rattle.wfs_ends.specs.Ends.{Rose};
 ghost use Rattle.disk_core.specs.Disk.{written, joined, cut_to, Same, Torn, Cut, ReadsBy, Leads};

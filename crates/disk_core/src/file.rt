@@ -1,3 +1,5 @@
+//! A disk over a file of the system.
+
 ghost use Rattle.std.specs.Prelude.{◌≡◌, ◌≤◌, length, IfOk, OnErr, Ok, None};
 ghost use Rattle.wfs_ends.specs.Ends.{Rose};
 

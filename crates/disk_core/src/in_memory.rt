@@ -1,3 +1,5 @@
+//! A disk in memory as a disk: each call against the model.
+
 ghost use Rattle.std.specs.Prelude.{◌≡◌, ◌≤◌, ◌<◌, ◌-◌, ◌⊎◌, ◌↔◌, ℕ, List, length, min, take, drop, Some, IfOk, OnOk, OnErr, IsErr};
 ghost use Rattle.wfs_ends.specs.Ends.{Rose};
 ghost use Rattle.disk_core.specs.Disk.{written, joined, cut_to, Same, Torn, Cut, Leads};

@@ -1,3 +1,5 @@
+//! A disk in memory, of which it is told beforehand which calls fail.
+
 ghost use Rattle.std.specs.Prelude.{◌≡◌, ◌≤◌, ◌<◌, ◌+◌, ◌⊎◌, ◌↔◌, ◌++◌, ◌∷◌, ◌-◌, if◌then◌else◌, [], length, min, take, drop, IfOk, OnOk, OnErr, IsErr, IsTrue, Contains, vec_capacity};
 ghost use Rattle.wfs_ends.specs.Ends.{Rose};
 ghost use Rattle.disk_core.specs.Disk.{over, joined};

@@ -1,3 +1,5 @@
+//! What calls on disks do, where they fail, and what crashes leave.
+
 ghost use Rattle.std.specs.Prelude.{◌≡◌, ◌∷◌, [], IfOk, Some};
 
 use super::*;

@@ -1,3 +1,5 @@
+//! The journal: a list of bodies on two files.
+
 ghost use Rattle.std.specs.Prelude.{◌≡◌, ◌⊎◌, ◌≤◌, ◌<◌, ◌+◌, ◌++◌, ◌∷◌, [], ℕ, List, length, min, true, false, not, OnOk, OnErr, IfOk, IfErr, Ok, Err, IsErrOf};
 ghost use Rattle.wfs_ends.specs.Ends.{Rose, last_count};
 ghost use Rattle.disk_core.specs.Sides.{Within};

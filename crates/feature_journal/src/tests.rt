@@ -1,3 +1,5 @@
+//! Faults and stops at each call, and the images that they leave.
+
 ghost use Rattle.std.specs.Prelude.{◌≡◌, ◌<◌, ◌∷◌, [], List, ℕ, length, IfOk};
 ghost use Rattle.disk_core.specs.Disk.{Every};
 ghost use Rattle.feature_journal.specs.Settled.{TailOf};

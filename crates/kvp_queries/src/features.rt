@@ -1,3 +1,5 @@
+//! The features that a query names: by type, by identifier, by property.
+
 ghost use Rattle.std.specs.Prelude.{◌≡◌, option_map};
 ghost use Rattle.wfs_ends.specs.Read.{GivesBut};
 ghost use Rattle.wfs_model.specs.declared.fault.AskFault.TheVariants.{OutOfMemory};

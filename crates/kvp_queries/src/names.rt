@@ -1,3 +1,5 @@
+//! The names of parameters.
+
 ghost use Rattle.std.specs.Prelude.{◌≡◌, map, find, option_map};
 ghost use Rattle.kvp_queries.specs.Pairs.{is_same, listed_name, is_type_names, repeated_name};
 

@@ -1,3 +1,5 @@
+//! How what is asked for is to be presented.
+
 ghost use Rattle.std.specs.Prelude.{◌≡◌};
 ghost use Rattle.wfs_ends.specs.Read.{GivesBut};
 ghost use Rattle.wfs_model.specs.declared.fault.AskFault.TheVariants.{OutOfMemory};

@@ -1,3 +1,5 @@
+//! The request of a query of pairs.
+
 ghost use Rattle.std.specs.Prelude.{◌≡◌, [], ◌∷◌, IfOk};
 ghost use Rattle.wfs_ends.specs.Read.{GivesBut};
 ghost use Rattle.wfs_machine.specs.Step.{IsOfTypes};

@@ -1,3 +1,5 @@
+//! Which features a query selects: by filter, by box, by identifier.
+
 ghost use Rattle.std.specs.Prelude.{◌≡◌, IfOk, None};
 ghost use Rattle.wfs_ends.specs.Read.{GivesBut};
 ghost use Rattle.doc_read.specs.Document.{document};

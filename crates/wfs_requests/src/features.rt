@@ -1,3 +1,5 @@
+//! Features that come in.
+
 ghost use Rattle.std.specs.Prelude.{◌≡◌, ◌<◌, false, IfOk, OnOk, length, map, codes, slice_get};
 ghost use Rattle.wfs_ends.specs.Read.{GivesBut, each};
 ghost use Rattle.gml_docs.specs.Elements.{is_gml};

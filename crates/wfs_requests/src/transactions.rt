@@ -1,3 +1,5 @@
+//! Transactions, and the request of a document.
+
 ghost use Rattle.std.specs.Prelude.{◌≡◌, ◌<◌, [], ◌∷◌, ◌++◌, IfOk, OnOk, All, length, map};
 ghost use Rattle.wfs_ends.specs.Read.{GivesBut, each};
 ghost use Rattle.wfs_machine.specs.Step.{IsOfTypes, IsActionOfTypes};

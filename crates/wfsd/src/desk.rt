@@ -1,3 +1,5 @@
+//! The service of one process: the machine, and the history of its entries.
+
 ghost use Rattle.std.specs.Prelude.{◌≡◌, length, IfOk, OnErr};
 ghost use Rattle.wfsd.specs.Served.{entry_of, size_of};
 

@@ -1,3 +1,5 @@
+//! All that the program does, by its words.
+
 ghost use Rattle.std.specs.Prelude.{◌≡◌, map};
 ghost use Rattle.std.specs.String.{string_bytes};
 ghost use Rattle.wfsd.specs.Talk.{Runs, Ends};
