@@ -138,8 +138,7 @@ fn laid<'a>(alloc: Global, view: &'a SampleView, steps: &[Step]) -> Mem<Overlay<
 
 fn has_mark(feature: &Feature, of: Mark) -> bool {
     let (place, mark) = of;
-    feature.id == rid(place)
-        && matches!(feature.values.items(), [Value::Whole(m), ..] if *m == mark)
+    feature.id == rid(place) && matches!(feature.items(), [Value::Whole(m), ..] if *m == mark)
 }
 
 fn is_found(found: Option<&Feature>, of: Mark) -> bool {

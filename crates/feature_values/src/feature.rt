@@ -4,7 +4,7 @@ ghost use Rattle.std.specs.Prelude.{◌≡◌, IfOk};
 
 use crate::value::Value;
 use std::alloc::Global;
-use wfs_ends::{List, Mem};
+use wfs_ends::{List, Mem, Shared};
 
 /// The identifier of a feature: the number of its type in the schema, and its own number among all features that
 /// there ever were of this type, from 1 on. A feature that has no number yet has 0.
@@ -14,32 +14,38 @@ pub struct Rid {
     pub number: u64,
 }
 
-/// A feature: one value for each property of its type, in the type's order.
+/// A feature: one value for each property of its type, in the type's order. Its copies share the values.
 #[derive(Debug, PartialEq, Eq, Drop)]
 pub struct Feature {
     pub id: Rid,
-    pub values: List<Value>,
+    pub values: Shared<List<Value>>,
 }
 
 impl Feature {
-    /// An equal feature.
-    pub fn copy(&self, alloc: Global) -> Mem<Feature>
-        ensures { IfOk result (λ f. f ≡ self.now) }
+    /// The feature of these values.
+    pub fn of(alloc: Global, id: Rid, values: Vec<Value>) -> Mem<Feature>
+        ensures { IfOk result (λ f. f ≡ record { id = id; values = values.items }) }
     {
-        let values = copy_values(alloc, self.values.items())?;
         Ok(Feature {
-            id: self.id,
-            values,
+            id,
+            values: Shared::new(alloc, List::of(values))?,
         })
     }
-}
 
-fn copy_values(alloc: Global, values: &[Value]) -> Mem<List<Value>>
-    ensures { IfOk result (λ all. all ≡ values.now) }
-{
-    let mut all = Vec::with_capacity(alloc, values.len())?;
-    for value in values {
-        all.push(value.copy(alloc)?)?;
+    /// The values, in the order of the type's properties.
+    pub fn items(&self) -> &[Value]
+        ensures { result.now ≡ self.now.values }
+    {
+        self.values.item().items()
     }
-    Ok(List::of(all))
+
+    /// An equal feature, which shares the values.
+    pub fn copy(&self, _alloc: Global) -> Mem<Feature>
+        ensures { IfOk result (λ f. f ≡ self.now) }
+    {
+        Ok(Feature {
+            id: self.id,
+            values: self.values.copy()?,
+        })
+    }
 }

@@ -85,6 +85,6 @@ pub fn fits(schema: &Schema, feature: &Feature) -> Result<(), ValueFault>
 {
     match schema.types.items().get(feature.id.kind as usize) {
         None => Err(ValueFault::Unknown),
-        Some(of_type) => type_fits(of_type, feature.values.items()),
+        Some(of_type) => type_fits(of_type, feature.items()),
     }
 }

@@ -140,10 +140,7 @@ fn schema_of_one(alloc: Global, property: Property) -> Mem<Schema> {
 fn feature_of_one(alloc: Global, value: Value) -> Mem<Feature> {
     let mut values = Vec::new(alloc);
     values.push(value)?;
-    Ok(Feature {
-        id: Rid { kind: 0, number: 1 },
-        values: List::of(values),
-    })
+    Feature::of(alloc, Rid { kind: 0, number: 1 }, values)
 }
 
 // What is wrong with a feature of one value.

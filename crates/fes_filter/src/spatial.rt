@@ -36,7 +36,7 @@ pub fn is_in_box(feature: &Feature, property: Option<u32>, area: &Box2) -> bool
     ensures { result ≡ is_in_box feature.now property area.now }
 {
     match property {
-        None => is_some_in(area, feature.values.items()),
+        None => is_some_in(area, feature.items()),
         Some(property) => match property_of(feature, property) {
             None => false,
             Some(value) => is_in(area, value),

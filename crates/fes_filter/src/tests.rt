@@ -207,8 +207,5 @@ fn mark(alloc: Global, label: &str) -> Mem<Feature> {
     for property in 0..OTHER {
         values.push(value(alloc, property, label)?)?;
     }
-    Ok(Feature {
-        id: Rid { kind: 1, number: 7 },
-        values: List::of(values),
-    })
+    Feature::of(alloc, Rid { kind: 1, number: 7 }, values)
 }

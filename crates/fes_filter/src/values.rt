@@ -11,7 +11,7 @@ use feature_values::{Feature, Value};
 pub fn property_of(feature: &Feature, property: u32) -> Option<&Value>
     ensures { option_copied result ≡ property_of feature.now property }
 {
-    feature.values.items().get(property as usize)
+    feature.items().get(property as usize)
 }
 
 /// What an expression stands for.

@@ -40,7 +40,7 @@ fn borrowed(value: Option<&Value>) -> ValueRef<'_>
 fn property_of(feature: &Feature, property: u32) -> Option<&Value>
     ensures { option_copied result ≡ property_of feature.now property }
 {
-    feature.values.items().get(property as usize)
+    feature.items().get(property as usize)
 }
 
 /// The value of a property as it is compared.

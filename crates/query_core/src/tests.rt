@@ -64,10 +64,7 @@ fn feature(alloc: Global, place: Place, label: &str, size: Option<i64>) -> Mem<F
     let mut values = Vec::new(alloc);
     values.push(words(alloc, label)?)?;
     values.push(size_of(size))?;
-    Ok(Feature {
-        id: Rid { kind, number },
-        values: List::of(values),
-    })
+    Feature::of(alloc, Rid { kind, number }, values)
 }
 
 fn features(alloc: Global) -> Mem<Vec<Feature>> {

@@ -77,7 +77,7 @@ fn put_properties<S: Sink>(
         of_type,
         feature.id.number,
         of_type.properties.items(),
-        feature.values.items(),
+        feature.items(),
     )
 }
 
@@ -114,7 +114,7 @@ fn put_inside<S: Sink>(
 ) -> bool
     ensures { Writes (record { shown = S.sink sink.old; failed = failed }) (inside_text schema.now of_type.now feature.now.id.number feature.now.values) (record { shown = S.sink sink.new; failed = result }) }
 {
-    if has_value(of_type.properties.items(), feature.values.items()) {
+    if has_value(of_type.properties.items(), feature.items()) {
         put_filled(sink, failed, schema, of_type, feature)
     } else {
         put_on(sink, failed, b"/>")

@@ -42,7 +42,7 @@ fn put_typed_value<S: Sink>(
 {
     match of_type.properties.items().get(property as usize) {
         None => put_on(sink, failed, b""),
-        Some(found) => match feature.values.items().get(property as usize) {
+        Some(found) => match feature.items().get(property as usize) {
             None => put_on(sink, failed, b""),
             Some(value) => {
                 put_valued_member(

@@ -45,10 +45,8 @@ fn features(alloc: Global, kind: u32) -> Mem<List<Feature>>
     ensures { IfOk result (λ fs. fs ≡ record { id = record { kind = kind; number = 0 }; values = [] } ∷ []) }
 {
     let mut features = Vec::new(alloc);
-    features.push(Feature {
-        id: Rid { kind, number: 0 },
-        values: List::of(Vec::new(alloc)),
-    })?;
+    let id = Rid { kind, number: 0 };
+    features.push(Feature::of(alloc, id, Vec::new(alloc))?)?;
     Ok(List::of(features))
 }
 

@@ -146,10 +146,7 @@ fn parts(alloc: Global) -> Mem<List<Part>> {
     values.push(Value::Words(Text::of(alloc, "A")?))?;
     values.push(Value::Null)?;
     let mut all = Vec::new(alloc);
-    all.push(Part::Put(Feature {
-        id,
-        values: List::of(values),
-    }))?;
+    all.push(Part::Put(Feature::of(alloc, id, values)?))?;
     all.push(Part::Remove(id))?;
     Ok(List::of(all))
 }

@@ -224,8 +224,5 @@ pub(crate) fn feature_of(
         return Err(misplaced(alloc, element));
     };
     let values = values_of(alloc, schema, of_type, element)?;
-    Ok(Feature {
-        id: Rid { kind, number: 0 },
-        values: List::of(values),
-    })
+    Ok(Feature::of(alloc, Rid { kind, number: 0 }, values)?)
 }

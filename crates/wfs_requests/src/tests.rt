@@ -382,21 +382,19 @@ fn value(alloc: Global, spelled: &str) -> Mem<Value> {
     Ok(Value::Null)
 }
 
-fn values(alloc: Global, spelled: &str) -> Mem<List<Value>> {
+fn values(alloc: Global, spelled: &str) -> Mem<Vec<Value>> {
     let mut all = Vec::new(alloc);
     for piece in spelled.split('|') {
         all.push(value(alloc, piece)?)?;
     }
-    Ok(List::of(all))
+    Ok(all)
 }
 
 fn inserts(alloc: Global, kind: u32, features: &str) -> Mem<Request> {
     let mut all = Vec::new(alloc);
     for line in features.lines() {
-        all.push(Feature {
-            id: Rid { kind, number: 0 },
-            values: values(alloc, line)?,
-        })?;
+        let id = Rid { kind, number: 0 };
+        all.push(Feature::of(alloc, id, values(alloc, line)?)?)?;
     }
     let mut actions = Vec::new(alloc);
     actions.push(Action::Insert {

@@ -102,10 +102,7 @@ pub fn marked(alloc: Global, of: Mark) -> Mem<Feature> {
     let mut values = Vec::new(alloc);
     values.push(Value::Whole(mark))?;
     values.push(Value::Shape(Geometry::At(ORIGIN)))?;
-    Ok(Feature {
-        id: Rid { kind, number },
-        values: List::of(values),
-    })
+    Feature::of(alloc, Rid { kind, number }, values)
 }
 
 /// The features; where they are not in order, as if there were no memory.

@@ -9,10 +9,7 @@ fn mark(alloc: Global, label: Sketch, size: Sketch) -> Mem<Feature> {
     values.push(value(alloc, label)?)?;
     values.push(value(alloc, size)?)?;
     values.push(value(alloc, Sketch::Point)?)?;
-    Ok(Feature {
-        id: Rid { kind: 0, number: 0 },
-        values: List::of(values),
-    })
+    Feature::of(alloc, Rid { kind: 0, number: 0 }, values)
 }
 
 const SIZE: Sketch = Sketch::Whole(7);

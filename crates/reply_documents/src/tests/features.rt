@@ -105,7 +105,7 @@ fn features(alloc: Global) -> Mem<List<Feature>> {
     all.push(flag(alloc, 1, 4, Value::Truth(true), Value::Truth(false))?)?;
     let mut values = Vec::new(alloc);
     values.push(Value::Words(Text::of(alloc, "<\u{e9}\">")?))?;
-    all.push(feature(0, 9, values))?;
+    all.push(feature(alloc, 0, 9, values)?)?;
     Ok(List::of(all))
 }
 

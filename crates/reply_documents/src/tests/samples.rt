@@ -53,11 +53,8 @@ pub(crate) fn marks(alloc: Global) -> Mem<Schema> {
     })
 }
 
-pub(crate) fn feature(kind: u32, number: u64, values: Vec<Value>) -> Feature {
-    Feature {
-        id: Rid { kind, number },
-        values: List::of(values),
-    }
+pub(crate) fn feature(alloc: Global, kind: u32, number: u64, values: Vec<Value>) -> Mem<Feature> {
+    Feature::of(alloc, Rid { kind, number }, values)
 }
 
 pub(crate) fn mark(
@@ -71,14 +68,14 @@ pub(crate) fn mark(
     values.push(Value::Words(Text::of(alloc, label)?))?;
     values.push(size)?;
     values.push(place)?;
-    Ok(feature(0, number, values))
+    feature(alloc, 0, number, values)
 }
 
 pub(crate) fn flag(alloc: Global, kind: u32, number: u64, up: Value, lit: Value) -> Mem<Feature> {
     let mut values = Vec::new(alloc);
     values.push(up)?;
     values.push(lit)?;
-    Ok(feature(kind, number, values))
+    feature(alloc, kind, number, values)
 }
 
 // The media types of replies.
