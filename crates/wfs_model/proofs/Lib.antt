@@ -1,3 +1,5 @@
+pub mod Fitting
+pub mod Keeping
 pub mod Middle
 mod Numerals
 pub mod Playing

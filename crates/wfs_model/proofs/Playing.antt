@@ -1,11 +1,9 @@
 -- The parts of actions, played on what is kept, leave what the actions leave.
-use Rattle.std.proofs.Common.{◌≡◌, ℕ, ◌+◌, ◌<◌, ◌≤◌, Bool, true, false, cond, List, [], ◌∷◌, ◌++◌, length, get_or, map, filter, All, Option, Some, None, Result, Ok, Err, refl, sym, ap, ◌∙◌, subst, append_assoc, set, length-set, arith}
+use Rattle.std.proofs.Common.{◌≡◌, ℕ, ◌+◌, ◌<◌, ◌≤◌, Bool, true, false, cond, List, [], ◌∷◌, ◌++◌, length, get_or, map, filter, All, Option, Some, None, refl, sym, ap, ◌∙◌, subst, append_assoc, set, length-set, arith}
 use Rattle.std.specs.Prelude.{zero, suc, nat_lt, flat_map, max}
 use Rattle.std.specs.List.{fold}
-use Rattle.std.proofs.lemmas.List.{set-get_or, get_or-set_same, get_or-set_other}
-use Rattle.std.proofs.lemmas.List.Sums.{fold-append}
-use Rattle.std.proofs.lemmas.List.Elements.{All-nil, All-cons, All-head, All-tail, All-weaker, All-append}
-use Rattle.wfs_ends.specs.Read.{◌>>=◌, each}
+use Rattle.std.proofs.lemmas.List.{set-get_or, get_or-set_same}
+use Rattle.std.proofs.lemmas.List.Elements.{All-nil, All-cons, All-head, All-tail, All-append}
 use Rattle.feature_values.specs.declared.feature.Feature.{Feature}
 use Rattle.feature_values.specs.declared.feature.Rid.{Rid}
 use Rattle.fes_filter.specs.View.{IsInOrder}
@@ -13,13 +11,11 @@ use Rattle.feature_overlay.specs.Changed.{IsOf}
 use Rattle.feature_overlay.specs.Laid.{laid}
 use Rattle.query_core.specs.Selecting.{to_list}
 use Rattle.wfs_model.specs.declared.action.Action.{Action}
-use Rattle.wfs_model.specs.declared.action.Action.TheVariants.{Insert, Update, Replace, Delete}
 use Rattle.wfs_model.specs.declared.change.Part.{Part}
-use Rattle.wfs_model.specs.declared.change.Part.TheVariants.{Put}
-use Rattle.wfs_model.specs.Acts.{Acting, numbered, inserted, selects, instead, left_of, parts_in, part_of}
+use Rattle.wfs_model.specs.Acts.{Acting, numbered, selects, instead, left_of, part_of}
 use Rattle.wfs_model.specs.State.{Durable}
 use Rattle.wfs_model.specs.Played.{raised, part_played}
-use Rattle.wfs_model.proofs.Middle.{append_none, instead_keeps, now_laid, turn_in_order}
+use Rattle.wfs_model.proofs.Middle.{instead_keeps, now_laid, turn_in_order}
 
 -- ---- counters
 

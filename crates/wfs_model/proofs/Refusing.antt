@@ -1,20 +1,15 @@
 -- What a refused step leaves, and the last moment after a step.
-use Rattle.std.proofs.Common.{◌≡◌, ℕ, List, [], Option, Some, None, Result, Ok, Err, refl, sym, ap, ◌∙◌}
+use Rattle.std.proofs.Common.{◌≡◌, ℕ, List, Option, Result, Ok, Err, refl, ◌∙◌}
 use Rattle.wfs_ends.specs.Read.{◌>>=◌}
-use Rattle.feature_values.specs.declared.feature.Rid.{Rid}
-use Rattle.feature_values.specs.declared.feature.Feature.{Feature}
 use Rattle.feature_values.specs.declared.schema.Schema.{Schema}
 use Rattle.query_core.specs.Selecting.{all_selected}
 use Rattle.query_core.specs.Paging.{page_of}
 use Rattle.lock_table.specs.declared.id.LockId.{LockId}
 use Rattle.lock_table.specs.declared.words.Release.{Release}
-use Rattle.wfs_model.specs.declared.action.Action.{Action}
 use Rattle.wfs_model.specs.declared.asked.Asked.{Asked}
 use Rattle.wfs_model.specs.declared.asked.Present.{Present}
 use Rattle.wfs_model.specs.declared.stored.StoredQuery.{StoredQuery}
-use Rattle.wfs_model.specs.declared.reply.Made.{Made}
-use Rattle.wfs_model.specs.declared.reply.Reply.{Reply}
-use Rattle.wfs_model.specs.declared.reply.Reply.TheVariants.{Collection, Locked, Transacted, Created, Dropped, Refused}
+use Rattle.wfs_model.specs.declared.reply.Reply.TheVariants.{Created, Dropped, Refused}
 use Rattle.wfs_model.specs.declared.reply.Refusal.{Refusal}
 use Rattle.wfs_model.specs.declared.request.Take.{Take}
 use Rattle.wfs_model.specs.declared.request.Request.{Request}

@@ -1,14 +1,12 @@
 -- What the actions of a transaction leave is in order, under numbers that were given, and it is what their parts leave.
-use Rattle.std.proofs.Common.{◌≡◌, ℕ, ◌+◌, Bool, true, false, cond, List, [], ◌∷◌, ◌++◌, length, get_or, map, filter, All, Option, Some, None, Result, Ok, Err, refl, sym, ap, ◌∙◌, subst, set, arith}
-use Rattle.std.specs.Prelude.{flat_map, if◌then◌else◌, max}
+use Rattle.std.proofs.Common.{◌≡◌, ℕ, ◌+◌, Bool, true, false, cond, List, [], ◌∷◌, ◌++◌, get_or, map, filter, All, Option, Some, Result, Ok, Err, refl, sym, ap, ◌∙◌, subst, set, arith}
+use Rattle.std.specs.Prelude.{flat_map, if◌then◌else◌}
 use Rattle.std.specs.List.{fold}
 use Rattle.std.proofs.lemmas.List.Sums.{fold-append}
 use Rattle.std.proofs.lemmas.List.Elements.{All-nil, All-cons, All-head, All-tail, All-weaker, All-append}
 use Rattle.wfs_ends.specs.Read.{◌>>=◌, each}
 use Rattle.feature_values.specs.declared.feature.Feature.{Feature}
 use Rattle.feature_values.specs.declared.feature.Rid.{Rid}
-use Rattle.feature_values.specs.declared.value.Value.{Value}
-use Rattle.fes_filter.specs.declared.filter.Filter.{Filter}
 use Rattle.fes_filter.specs.View.{is_before, IsInOrder}
 use Rattle.feature_overlay.specs.Laid.{laid}
 use Rattle.feature_overlay.proofs.Layings.{laid_in_order}
@@ -21,8 +19,8 @@ use Rattle.wfs_model.specs.Acts.{Acting, begun, numbered, inserted, selects, lef
 use Rattle.wfs_model.specs.Refusals.{not_one}
 use Rattle.wfs_model.specs.Plans.{Planning, planned, planned_all}
 use Rattle.wfs_model.specs.State.{Durable}
-use Rattle.wfs_model.specs.Played.{raised, part_played}
-use Rattle.wfs_model.proofs.Playing.{IsCounted, next_is, counted_more, new_counted, at, onto, plays, part, left_in_order, left_counted}
+use Rattle.wfs_model.specs.Played.{part_played}
+use Rattle.wfs_model.proofs.Playing.{IsCounted, next_is, counted_more, new_counted, onto, plays, part, left_in_order, left_counted}
 
 -- the features are in order, under numbers that were given
 pub record IsSound (acting : Acting) : Type 0 where
@@ -93,10 +91,10 @@ noted_counters (Replace handle feature passing) ids acting = refl
 noted_counters (Delete kind passing) ids acting = refl
 
 -- the features and counters after an action that changes features
-after_features : (action : Action) (acting : Acting) → (changed action acting).features ≡ flat_map (left_of action) acting.features
+pub after_features : (action : Action) (acting : Acting) → (changed action acting).features ≡ flat_map (left_of action) acting.features
 after_features action acting = noted_features action (touched_by action acting) (record acting { features = flat_map (left_of action) acting.features })
 
-after_counters : (action : Action) (acting : Acting) → (changed action acting).counters ≡ acting.counters
+pub after_counters : (action : Action) (acting : Acting) → (changed action acting).counters ≡ acting.counters
 after_counters action acting = noted_counters action (touched_by action acting) (record acting { features = flat_map (left_of action) acting.features })
 
 change_sound : (action : Action) (acting : Acting) → IsSound acting → IsSound (changed action acting)
@@ -118,7 +116,7 @@ pub record Plays (kept : Durable) (parts : List Part) (before now : Acting) : Ty
   pub sound : IsSound now
   pub played : fold part_played (onto kept before) parts ≡ onto kept now
 
-done_is : (b : Bool) (refusal : Refusal) (acting done : Acting) → (let r : Result Acting Refusal = if b then Err refusal else Ok acting in r) ≡ Ok done → acting ≡ done
+pub done_is : (b : Bool) (refusal : Refusal) (acting done : Acting) → (let r : Result Acting Refusal = if b then Err refusal else Ok acting in r) ≡ Ok done → acting ≡ done
 done_is true refusal acting done e = absurd cc
 done_is false refusal acting done e = cc
 

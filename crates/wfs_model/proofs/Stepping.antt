@@ -1,5 +1,5 @@
 -- What a step leaves of what outlives the process is what the change that it makes leaves.
-use Rattle.std.proofs.Common.{◌≡◌, ℕ, ◌+◌, ◌≤◌, Bool, true, false, List, [], ◌∷◌, ◌++◌, length, get_or, take, All, Option, Some, None, Result, Ok, Err, refl, sym, ap, ◌∙◌, subst, append_assoc, arith}
+use Rattle.std.proofs.Common.{◌≡◌, ℕ, ◌≤◌, Bool, true, false, List, [], ◌∷◌, ◌++◌, length, get_or, take, Option, None, Result, Ok, Err, refl, sym, ap, ◌∙◌, subst, append_assoc, arith}
 use Rattle.std.specs.Prelude.{◌==◌, if◌then◌else◌}
 use Rattle.std.specs.List.{fold}
 use Rattle.std.specs.Option.{option_to_list}
@@ -9,8 +9,6 @@ use Rattle.wfs_ends.specs.Read.{◌>>=◌, each}
 use Rattle.feature_values.specs.declared.feature.Feature.{Feature}
 use Rattle.feature_values.specs.declared.feature.Rid.{Rid}
 use Rattle.feature_values.specs.declared.schema.Schema.{Schema}
-use Rattle.fes_filter.specs.declared.query.Query.{Query}
-use Rattle.fes_filter.specs.View.{IsInOrder}
 use Rattle.query_core.specs.Selecting.{all_selected}
 use Rattle.query_core.specs.Paging.{page_of}
 use Rattle.lock_table.specs.declared.id.LockId.{LockId}
@@ -21,7 +19,7 @@ use Rattle.wfs_model.specs.declared.asked.Present.{Present}
 use Rattle.wfs_model.specs.declared.stored.StoredQuery.{StoredQuery}
 use Rattle.wfs_model.specs.declared.change.Part.{Part}
 use Rattle.wfs_model.specs.declared.change.Change.{Change}
-use Rattle.wfs_model.specs.declared.change.Change.TheVariants.{Rows, Created, Dropped}
+use Rattle.wfs_model.specs.declared.change.Change.TheVariants.{Created, Dropped}
 use Rattle.wfs_model.specs.declared.entry.Entry.{Entry}
 use Rattle.wfs_model.specs.declared.reply.Reply.{Reply}
 use Rattle.wfs_model.specs.declared.reply.Refusal.{Refusal}
@@ -37,12 +35,12 @@ use Rattle.wfs_model.specs.Stored.{is_known, is_there, created_one, created, wit
 use Rattle.wfs_model.specs.Expand.{all_expanded}
 use Rattle.wfs_model.specs.Acts.{begun}
 use Rattle.wfs_model.specs.Plans.{Planning, permitted}
-use Rattle.wfs_model.specs.Locking.{Division, named, named_if, divided, locked}
+use Rattle.wfs_model.specs.Locking.{named, named_if, divided, locked}
 use Rattle.wfs_model.specs.Step.{Done, lock_taken, page_locked, lock_renewed, plan_with, plan_of, carried_out, with_stored, settled, step}
 use Rattle.wfs_model.specs.Played.{rows_of, rows_if, if_accepted, change_of, accepted, part_played, played_one, played}
 use Rattle.wfs_model.specs.History.{stepped, after_all}
 use Rattle.wfs_model.proofs.Middle.{append_none}
-use Rattle.wfs_model.proofs.Playing.{IsCounted, onto}
+use Rattle.wfs_model.proofs.Playing.{IsCounted}
 use Rattle.wfs_model.proofs.Sound.{IsSound, Plays, bind_ok, all_play}
 
 -- what is kept is sound
@@ -60,7 +58,7 @@ same_follows kept now sound is = record { is = is; sound = subst IsSoundKept (sy
 -- ---- steps that change no feature
 
 -- a step keeps what is kept, where its work does
-settled_keeps : (state : State) (moment : ℕ) (r : Result Done Refusal) → ((done : Done) → r ≡ Ok done → durable done.1 ≡ durable state) → durable (settled state moment r).1 ≡ durable state
+pub settled_keeps : (state : State) (moment : ℕ) (r : Result Done Refusal) → ((done : Done) → r ≡ Ok done → durable done.1 ≡ durable state) → durable (settled state moment r).1 ≡ durable state
 settled_keeps state moment (Err refusal) h = refl
 settled_keeps state moment (Ok done) h = h done refl
 
@@ -75,21 +73,21 @@ locked_keeps state moment period taken = locked_at state _ (length taken == 0) r
 ok_is : (done other : Done) → (let r : Result Done Refusal = Ok done in r) ≡ Ok other → done ≡ other
 ok_is done other e = cc
 
-lock_keeps : (schema : Schema) (state : State) (moment : ℕ) (asked : List Asked) (take : Take) (period : ℕ) (done : Done) → lock_taken schema state moment asked take period ≡ Ok done → durable done.1 ≡ durable state
+pub lock_keeps : (schema : Schema) (state : State) (moment : ℕ) (asked : List Asked) (take : Take) (period : ℕ) (done : Done) → lock_taken schema state moment asked take period ≡ Ok done → durable done.1 ≡ durable state
 unfolding lock_taken
 lock_keeps schema state moment asked take period done is =
     let one = bind_ok (or_refused (all_expanded schema state.stored asked)) _ done is in
     let two = bind_ok (divided schema state.locks moment take (all_selected state.features one.0)) _ done one.2 in
     ap (λ (d : Done). durable d.1) (sym (ok_is _ done two.2)) ∙ locked_keeps state moment period two.0.taken
 
-page_keeps : (schema : Schema) (state : State) (moment : ℕ) (present : Present) (asked : List Asked) (take : Take) (period : ℕ) (done : Done) → page_locked schema state moment present asked take period ≡ Ok done → durable done.1 ≡ durable state
+pub page_keeps : (schema : Schema) (state : State) (moment : ℕ) (present : Present) (asked : List Asked) (take : Take) (period : ℕ) (done : Done) → page_locked schema state moment present asked take period ≡ Ok done → durable done.1 ≡ durable state
 unfolding page_locked
 page_keeps schema state moment present asked take period done is =
     let one = bind_ok (or_refused (all_expanded schema state.stored asked)) _ done is in
     let two = bind_ok (divided schema state.locks moment take (page_of present.start present.count (all_selected state.features one.0))) _ done one.2 in
     ap (λ (d : Done). durable d.1) (sym (ok_is _ done two.2)) ∙ locked_keeps state moment period two.0.taken
 
-renewal_keeps : (state : State) (moment : ℕ) (id : LockId) (period : Option ℕ) (done : Done) → lock_renewed state moment id period ≡ Ok done → durable done.1 ≡ durable state
+pub renewal_keeps : (state : State) (moment : ℕ) (id : LockId) (period : Option ℕ) (done : Done) → lock_renewed state moment id period ≡ Ok done → durable done.1 ≡ durable state
 unfolding lock_renewed
 renewal_keeps state moment id period done is =
     let one = bind_ok (named state moment id) _ done is in
@@ -118,7 +116,7 @@ transact_follows schema state moment lock release actions sound =
 
 -- ---- stored queries
 
-created_at : (b : Bool) (fault : StoredFault) (stored now : List StoredQuery) → (let r : Result (List StoredQuery) StoredFault = if b then Err fault else Ok stored in r) ≡ Ok now → stored ≡ now
+pub created_at : (b : Bool) (fault : StoredFault) (stored now : List StoredQuery) → (let r : Result (List StoredQuery) StoredFault = if b then Err fault else Ok stored in r) ≡ Ok now → stored ≡ now
 created_at true fault stored now e = absurd cc
 created_at false fault stored now e = cc
 
@@ -134,7 +132,7 @@ dropped_at : (b : Bool) (fault : StoredFault) (stored now : List StoredQuery) �
 dropped_at true fault stored now e = cc
 dropped_at false fault stored now e = absurd cc
 
-dropped_is : (stored now : List StoredQuery) (id : List ℕ) → dropped stored id ≡ Ok now → without_query stored id ≡ now
+pub dropped_is : (stored now : List StoredQuery) (id : List ℕ) → dropped stored id ≡ Ok now → without_query stored id ≡ now
 unfolding dropped
 dropped_is stored now id e = dropped_at (is_there stored id) (Unknown id) (without_query stored id) now e
 
@@ -183,7 +181,7 @@ after_follows schema state (entry ∷ entries) sound =
     ∙ ap (λ (k : Durable). played k (accepted schema (stepped schema state entry) entries)) first.is
     ∙ sym (fold-append played_one (durable state) (option_to_list (change_of schema state entry.moment entry.request)) (accepted schema (stepped schema state entry) entries))
 
-sound_kept : (schema : Schema) (kept : Durable) → IsKept schema kept → IsSoundKept kept
+pub sound_kept : (schema : Schema) (kept : Durable) → IsKept schema kept → IsSoundKept kept
 sound_kept schema kept is = record { order = is.order; counted = All-weaker (λ (f : Feature). f.id.number ≤ get_or kept.counters f.id.kind 0) (IsCounted kept.counters) (λ f given there. given) kept.features is.given }
 
 -- what outlives the process after entries is what their changes leave

@@ -1,6 +1,6 @@
 -- Which requests a schema allows: each type, property and value in them is one of the schema's, and filters are such as the types allow. The
 -- readers of requests give no others.
-use Rattle.std.specs.Prelude.{◌≡◌, ℕ, ◌<◌, ◌≤◌, Bool, false, List, [], ◌∷◌, ◌++◌, length, map, filter, flat_map, All, Option, Some, None, Result, Ok, Err, slice_get, ⊤}
+use Rattle.std.specs.Prelude.{◌≡◌, ℕ, ◌<◌, ◌≤◌, false, List, [], ◌∷◌, ◌++◌, length, map, filter, flat_map, All, Option, Some, None, Result, Ok, Err, slice_get, ⊤}
 use Rattle.std.specs.List.{AllPairs}
 use Rattle.std.specs.Option.{option_and_then, option_to_list, IfSome}
 use Rattle.feature_values.specs.declared.value.Value.{Value}

@@ -1,24 +1,23 @@
 -- What a read answers, of what outlives the process alone, and with its moment printed (OGC 09-025r2, sections 8 to 11 and 14).
-use Rattle.std.specs.Prelude.{ℕ, zero, suc, Bool, true, false, ◌&&◌, ◌||◌, ◌==◌, not, if◌then◌else◌, List, [], ◌∷◌, ◌++◌, length, map, filter, Option, Some, None, option_map, Result, Ok, Err, slice_get}
+use Rattle.std.specs.Prelude.{ℕ, zero, suc, Bool, false, ◌&&◌, ◌||◌, ◌==◌, not, if◌then◌else◌, List, [], ◌∷◌, ◌++◌, length, filter, Option, Some, None, option_map, Result, Ok, Err}
 use Rattle.std.specs.List.{find, list_any, list_all}
-use Rattle.std.specs.Option.{option_and_then, unwrap_or}
+use Rattle.std.specs.Option.{unwrap_or}
 use Rattle.wfs_ends.specs.Read.{◌>>=◌}
 use Rattle.std.specs.Str.{bytes_eq}
-use Rattle.feature_values.specs.declared.value.Value.{Value}
 use Rattle.feature_values.specs.declared.feature.Feature.{Feature}
 use Rattle.feature_values.specs.declared.feature.Rid.{Rid}
 use Rattle.feature_values.specs.declared.schema.Schema.{Schema}
 use Rattle.fes_filter.specs.declared.query.Query.{Query}
 use Rattle.fes_filter.specs.Truth.{property_of, is_missing}
 use Rattle.fes_filter.specs.Check.{type_in, property_in}
-use Rattle.query_core.specs.Selecting.{all_selected, held, ids_of}
+use Rattle.query_core.specs.Selecting.{all_selected, held}
 use Rattle.query_core.specs.Paging.{page_of}
 use Rattle.wfs_model.specs.declared.asked.Asked.{Asked}
 use Rattle.wfs_model.specs.declared.asked.Asked.TheVariants.{Plain, Stored as StoredAsked}
 use Rattle.wfs_model.specs.declared.asked.Present.{Present}
 use Rattle.wfs_model.specs.declared.stored.StoredQuery.{StoredQuery}
 use Rattle.wfs_model.specs.declared.request.Request.{Request}
-use Rattle.wfs_model.specs.declared.request.Request.TheVariants.{Capabilities as AskCapabilities, DescribeTypes, GetFeatures, GetValues, ListStored, DescribeStored}
+use Rattle.wfs_model.specs.declared.request.Request.TheVariants.{DescribeTypes, GetFeatures, GetValues, ListStored, DescribeStored}
 use Rattle.wfs_model.specs.declared.reply.Refusal.{Refusal}
 use Rattle.wfs_model.specs.declared.reply.Reply.{Reply}
 use Rattle.wfs_model.specs.declared.reply.Reply.TheVariants.{Capabilities, Types, Collection, Values, Bare, StoredList, StoredTexts, Refused}

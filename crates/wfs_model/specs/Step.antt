@@ -1,6 +1,6 @@
 -- What a changing request answers, and the state that it leaves (OGC 09-025r2, sections 12 to 15). What is judged first is this project's own:
 -- the stored queries that it uses, in order; then the lock that it names; then its work.
-use Rattle.std.specs.Prelude.{ℕ, ◌==◌, if◌then◌else◌, List, [], length, Option, Some, None, Result, Ok, Err}
+use Rattle.std.specs.Prelude.{ℕ, List, [], length, Option, Some, None, Result, Ok, Err}
 use Rattle.wfs_ends.specs.Read.{◌>>=◌}
 use Rattle.feature_values.specs.declared.feature.Rid.{Rid}
 use Rattle.feature_values.specs.declared.schema.Schema.{Schema}

@@ -8,6 +8,7 @@ ghost use Rattle.wfs_model.specs.declared.reply.Reply.TheVariants.{Refused};
 ghost use Rattle.wfs_model.specs.declared.request.Request.{Request};
 ghost use Rattle.wfs_model.specs.State.{State, durable};
 ghost use Rattle.wfs_model.specs.Kept.{IsKept};
+ghost use Rattle.wfs_model.specs.OfSchema.{IsOfSchema};
 ghost use Rattle.wfs_model.specs.Changing.{IsChange};
 ghost use Rattle.wfs_model.specs.Step.{step};
 ghost use Rattle.wfs_model.specs.History.{after};
@@ -27,4 +28,10 @@ pub fn refused_changes_nothing()
 /// The last moment of a step is its moment.
 pub fn each_step_sets_the_moment()
     ensures { (schema : Schema) (state : State) (moment : ℕ) (request : Request) → IsChange request → (step schema state moment request).1.last ≡ moment }
+{}
+
+/// A step keeps well what outlives the process: features stand in order, each such as the schema allows and under a number that was
+/// given, and stored queries are such as it allows, under identifiers of their own.
+pub fn steps_keep_what_is_kept_well()
+    ensures { (schema : Schema) (state : State) (moment : ℕ) (request : Request) → IsKept schema (durable state) → IsOfSchema schema request → IsKept schema (durable (step schema state moment request).1) }
 {}

@@ -20,7 +20,10 @@ pub use asked::{Asked, Present};
 pub use change::{Change, Part};
 pub use entry::Entry;
 pub use fault::{AskFault, StoredFault};
-pub use laws::{changes_tell_what_is_kept, each_step_sets_the_moment, refused_changes_nothing};
+pub use laws::{
+    changes_tell_what_is_kept, each_step_sets_the_moment, refused_changes_nothing,
+    steps_keep_what_is_kept_well,
+};
 pub use limits::{FullAt, LimitName, Limits};
 pub use link::page_link;
 pub use lock_table::{LockId, Release};
