@@ -18,7 +18,7 @@ use Rattle.doc_tree.specs.Characters.{is_allowed}
 use Rattle.doc_read.specs.Chars.{holds, starts, split_front, skip_space, expected_at, letters, word_at, begins, contains, split_word}
 use Rattle.doc_read.specs.Lex.{Spelling, Raw, Tag, Part, part, plain, name_at, local_at, spelled_at, named_reference, name_reference_at, number, number_reference_at, numbered_at, reference_at, value_turn, inside_value, value_at, raw_attribute_at, attributes_at, tag_at, tag_end_at, slash_at}
 use Rattle.doc_read.specs.declared.scope.Bound.{Bound}
-use Rattle.doc_read.specs.Scope.{has_twins, spellings, expanded_names, same_spelling, declared_at, attributes_in, has_unknown, element_name}
+use Rattle.doc_read.specs.Scope.{has_twins, same_pair, spellings, expanded_names, same_spelling, declared_at, attributes_in, has_unknown, element_name}
 use Rattle.doc_read.specs.Element.{Head, head_at, closed_at, comment_at, remark_at}
 use Rattle.doc_read.specs.Grammar.{IsName, IsBlank, IsQuote, IsPrefix, IsSpelling, spell, Reference, named, decimal, hexadecimal, print_reference, IsNumber, IsReference, Written, ended, refers, print_written, written_text, IsWritten, SpellsRaw, SpellsRaws, SpellsTag, SpellsHead, tag_end}
 use Rattle.doc_read.proofs.Fronts.{both}
@@ -410,7 +410,7 @@ tag_takes cs t rest e =
 
 abbrev head_is : List Bound → Tag → List ℕ → List Bound → Result (Head × List ℕ) DocFault
 head_is scope t rest own = do
-  named_once ← unless (has_twins (expanded_names (attributes_in (scope ++ own) t.attributes))) Malformed
+  named_once ← unless (has_twins same_pair (expanded_names (attributes_in (scope ++ own) t.attributes))) Malformed
   known ← unless (has_unknown (scope ++ own) t.attributes) Prefix
   name ← element_name (scope ++ own) t.name
   Ok (record { spelling = t.name; name = name; attributes = attributes_in (scope ++ own) t.attributes; is_empty = t.is_empty; scope = scope ++ own }, rest)
@@ -418,13 +418,13 @@ head_is scope t rest own = do
 pub head_takes : (scope : List Bound) (cs : List ℕ) (h : Head) (rest : List ℕ) → head_at scope cs ≡ Ok (h, rest) → (text : List ℕ) × SpellsHead scope text h × (cs ≡ text ++ rest)
 unfolding head_at
 head_takes scope cs h rest e =
-    let a = bind_ok (tag_at cs) (λ tag. unless (has_twins (spellings tag.0.attributes)) Malformed >>= λ once. declared_at tag.0.attributes >>= λ own. head_is scope tag.0 tag.1 own) (h, rest) e in
+    let a = bind_ok (tag_at cs) (λ tag. unless (has_twins same_pair (spellings tag.0.attributes)) Malformed >>= λ once. declared_at tag.0.attributes >>= λ own. head_is scope tag.0 tag.1 own) (h, rest) e in
     let t = a.0.0 in
-    let u = bind_ok (unless (has_twins (spellings t.attributes)) Malformed) (λ once. declared_at t.attributes >>= λ own. head_is scope t a.0.1 own) (h, rest) a.2 in
+    let u = bind_ok (unless (has_twins same_pair (spellings t.attributes)) Malformed) (λ once. declared_at t.attributes >>= λ own. head_is scope t a.0.1 own) (h, rest) a.2 in
     let b = bind_ok (declared_at t.attributes) (λ own. head_is scope t a.0.1 own) (h, rest) u.2 in
     let inner = scope ++ b.0 in
     let all = attributes_in inner t.attributes in
-    let v = bind_ok (unless (has_twins (expanded_names all)) Malformed) (λ named_once. unless (has_unknown inner t.attributes) Prefix >>= λ known. element_name inner t.name >>= λ name. Ok (record { spelling = t.name; name = name; attributes = all; is_empty = t.is_empty; scope = inner }, a.0.1)) (h, rest) b.2 in
+    let v = bind_ok (unless (has_twins same_pair (expanded_names all)) Malformed) (λ named_once. unless (has_unknown inner t.attributes) Prefix >>= λ known. element_name inner t.name >>= λ name. Ok (record { spelling = t.name; name = name; attributes = all; is_empty = t.is_empty; scope = inner }, a.0.1)) (h, rest) b.2 in
     let w = bind_ok (unless (has_unknown inner t.attributes) Prefix) (λ known. element_name inner t.name >>= λ name. Ok (record { spelling = t.name; name = name; attributes = all; is_empty = t.is_empty; scope = inner }, a.0.1)) (h, rest) v.2 in
     let c = bind_ok (element_name inner t.name) (λ name. Ok (record { spelling = t.name; name = name; attributes = all; is_empty = t.is_empty; scope = inner }, a.0.1)) (h, rest) w.2 in
     let k = tag_takes cs t a.0.1 a.1 in
@@ -433,11 +433,11 @@ head_takes scope cs h rest e =
       raws = t.attributes;
       own = b.0;
       tag = k.1;
-      spelled_once = unless_ok (has_twins (spellings t.attributes)) Malformed u.0 u.1;
+      spelled_once = unless_ok (has_twins same_pair (spellings t.attributes)) Malformed u.0 u.1;
       declared = b.1;
       inner = refl;
       attributes = refl;
-      named_once = unless_ok (has_twins (expanded_names all)) Malformed v.0 v.1;
+      named_once = unless_ok (has_twins same_pair (expanded_names all)) Malformed v.0 v.1;
       known = unless_ok (has_unknown inner t.attributes) Prefix w.0 w.1;
       name = c.1;
     } in

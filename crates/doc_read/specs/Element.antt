@@ -17,7 +17,7 @@ use Rattle.doc_read.specs.Read.{Reads}
 use Rattle.doc_read.specs.Chars.{holds, split_front, skip_space, expected_at, begins, word_at, contains, split_word}
 use Rattle.doc_read.specs.Lex.{Spelling, spelled, spelled_at, tag_at, reference_at}
 use Rattle.doc_read.specs.declared.scope.Bound.{Bound}
-use Rattle.doc_read.specs.Scope.{has_twins, spellings, expanded_names, same_spelling, declared_at, element_name, attributes_in, has_unknown}
+use Rattle.doc_read.specs.Scope.{has_twins, same_pair, spellings, expanded_names, same_spelling, declared_at, element_name, attributes_in, has_unknown}
 
 -- ---- start tags
 
@@ -36,9 +36,9 @@ head_of scope h = record { spelling = spelled h.spelling; name = h.name; attribu
 unfoldable pub head_at : List Bound → List ℕ → Reads Head
 head_at scope cs = do
   tag ← tag_at cs
-  spelled_once ← unless (has_twins (spellings tag.0.attributes)) Malformed
+  spelled_once ← unless (has_twins same_pair (spellings tag.0.attributes)) Malformed
   own ← declared_at tag.0.attributes
-  named_once ← unless (has_twins (expanded_names (attributes_in (scope ++ own) tag.0.attributes))) Malformed
+  named_once ← unless (has_twins same_pair (expanded_names (attributes_in (scope ++ own) tag.0.attributes))) Malformed
   known ← unless (has_unknown (scope ++ own) tag.0.attributes) Prefix
   name ← element_name (scope ++ own) tag.0.name
   Ok (record { spelling = tag.0.name; name = name; attributes = attributes_in (scope ++ own) tag.0.attributes; is_empty = tag.0.is_empty; scope = scope ++ own }, tag.1)

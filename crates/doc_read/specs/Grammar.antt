@@ -13,7 +13,7 @@ use Rattle.doc_tree.specs.Characters.{is_allowed}
 use Rattle.doc_read.specs.Chars.{holds, starts, letters, contains}
 use Rattle.doc_read.specs.Lex.{Spelling, Raw, Tag, named_reference, number, plain}
 use Rattle.doc_read.specs.declared.scope.Bound.{Bound}
-use Rattle.doc_read.specs.Scope.{xml_scope, has_twins, spellings, expanded_names, declared_at, element_name, attributes_in, has_unknown}
+use Rattle.doc_read.specs.Scope.{xml_scope, has_twins, same_pair, spellings, expanded_names, declared_at, element_name, attributes_in, has_unknown}
 use Rattle.doc_read.specs.Declaration.{fits}
 use Rattle.doc_read.specs.Element.{Head, tree, max_elements, max_attributes}
 use Rattle.doc_read.specs.Document.{line_feeds, unmarked, max_depth}
@@ -128,11 +128,11 @@ pub record SpellsHead (scope : List Bound) (text : List ℕ) (h : Head) : Type 0
   pub raws : List Raw
   pub own : List Bound
   pub tag : SpellsTag text (record { name = h.spelling; attributes = raws; is_empty = h.is_empty })
-  pub spelled_once : has_twins (spellings raws) ≡ false
+  pub spelled_once : has_twins same_pair (spellings raws) ≡ false
   pub declared : declared_at raws ≡ Ok own
   pub inner : h.scope ≡ scope ++ own
   pub attributes : h.attributes ≡ attributes_in (scope ++ own) raws
-  pub named_once : has_twins (expanded_names (attributes_in (scope ++ own) raws)) ≡ false
+  pub named_once : has_twins same_pair (expanded_names (attributes_in (scope ++ own) raws)) ≡ false
   pub known : has_unknown (scope ++ own) raws ≡ false
   pub name : element_name (scope ++ own) h.spelling ≡ Ok h.name
 

@@ -1,6 +1,7 @@
 -- Which prefixes stand for which spaces, and what names mean (Namespaces in XML 1.0).
 use Rattle.std.specs.Prelude.{ℕ, Bool, true, false, ◌||◌, ◌&&◌, not, length, List, [], ◌∷◌, ◌++◌, map, Option, Some, None, Result, Ok, Err, ◌==◌, if◌then◌else◌, codes, encode_utf8_all}
 use Rattle.std.specs.Str.{bytes_eq}
+use Rattle.std.specs.Borrow.{Bor}
 use Rattle.std.specs.List.{list_any, flat_map}
 use Rattle.wfs_ends.specs.Read.{each}
 use Rattle.doc_tree.specs.declared.tree.QName.{QName}
@@ -12,23 +13,30 @@ use Rattle.doc_read.specs.Lex.{Spelling, Raw}
 
 -- ---- what comes twice
 
--- whether two of the texts are the same
-unfoldable pub has_twins : List (List ℕ) → Bool
-has_twins [] = false
-has_twins (x ∷ xs) = list_any (bytes_eq x) xs || has_twins xs
+-- whether two of the items are the same
+unfoldable pub has_twins : {K : Type 0} → (K → K → Bool) → List K → Bool
+has_twins same [] = false
+has_twins same (x ∷ xs) = list_any (same x) xs || has_twins same xs
 
--- a name as it is spelled, with a colon also where it has no prefix
-abbrev pub written : Spelling → List ℕ
-written s = encode_utf8_all s.prefix ++ 58 ∷ encode_utf8_all s.local
+abbrev pub same_pair : List ℕ × List ℕ → List ℕ × List ℕ → Bool
+same_pair a b = bytes_eq a.0 b.0 && bytes_eq a.1 b.1
 
-abbrev pub spellings : List Raw → List (List ℕ)
+-- two texts that are borrowed
+abbrev pub texts : Bor (List ℕ) × Bor (List ℕ) → List ℕ × List ℕ
+texts pair = (pair.0.now, pair.1.now)
+
+-- the texts of a name as it is spelled: its prefix and its local name
+abbrev pub written : Spelling → List ℕ × List ℕ
+written s = (encode_utf8_all s.prefix, encode_utf8_all s.local)
+
+abbrev pub spellings : List Raw → List (List ℕ × List ℕ)
 spellings rs = map (λ r. written r.name) rs
 
--- a local name, which has no white space in it, and its space
-abbrev pub expanded : QName → List ℕ
-expanded name = name.local ++ 32 ∷ name.space
+-- the texts of an expanded name (Namespaces in XML 1.0, 6.3): its local name and its space
+abbrev pub expanded : QName → List ℕ × List ℕ
+expanded name = (name.local, name.space)
 
-abbrev pub expanded_names : List Attribute → List (List ℕ)
+abbrev pub expanded_names : List Attribute → List (List ℕ × List ℕ)
 expanded_names attributes = map (λ a. expanded a.name) attributes
 
 abbrev pub same_spelling : Spelling → Spelling → Bool
