@@ -10,10 +10,11 @@ use Rattle.doc_tree.specs.declared.tree.Attribute.{Attribute}
 use Rattle.doc_tree.specs.declared.tree.Prefixes.{Prefixes}
 use Rattle.doc_read.specs.declared.scope.Bound.{Bound}
 use Rattle.doc_read.specs.Lex.{Spelling, Raw}
-use Rattle.doc_read.specs.Scope.{has_twins, written, spellings, expanded, expanded_names, is_declaration, declared_step, attribute_space, attribute_of, attributes_in, is_unknown, has_unknown}
+use Rattle.doc_read.specs.Scope.{has_twins, same_pair, written, spellings, expanded, expanded_names, is_declaration, declared_step, attribute_space, attribute_of, attributes_in, is_unknown, has_unknown}
 use Rattle.doc_read.specs.Grammar.{IsSpelling}
 use Rattle.doc_read.proofs.Fronts.{both, false_unless}
 use Rattle.doc_read.proofs.Again.{same_bytes}
+use Rattle.doc_read.proofs.Repeats.{pair_is, pair_itself}
 use Rattle.doc_laws.specs.RoundTrip.{IsPair, ArePairs, ArePrefixes, is_covered}
 use Rattle.doc_laws.proofs.Encoding.{name_same}
 use Rattle.doc_laws.proofs.Facts.{bytes_same, IsGood, AreGood}
@@ -113,22 +114,22 @@ same_name ps a b j k e =
     let space : a.name.space ≡ b.name.space = cc in
     rw (local, space) refl
 
-differ : (x y v w : List ℕ) → (v ≡ w → x ≡ y) → bytes_eq x y ≡ false → bytes_eq v w ≡ false
-differ x y v w same other = false_unless (bytes_eq v w) (λ e. clash (bytes_eq x y) (subst (λ (z : List ℕ). bytes_eq x z ≡ true) (same (bytes_same v w e)) (same_bytes x)) other)
+differ : {K : Type 0} (eq : K → K → Bool) (x y : K) (v w : List ℕ × List ℕ) → eq x x ≡ true → (v ≡ w → x ≡ y) → eq x y ≡ false → same_pair v w ≡ false
+differ {K} eq x y v w itself same other = false_unless (same_pair v w) (λ e. clash (eq x y) (subst (λ (z : K). eq x z ≡ true) (same (pair_is v w e)) itself) other)
 
-one_apart : (ps : Pairs) (a : Attribute) (xs : List Attribute) → Known ps a.name → AreKnown ps xs → list_any (bytes_eq (expanded a.name)) (expanded_names xs) ≡ false → list_any (bytes_eq (written (spelling_of ps a.name))) (spellings (map (raw_of ps) xs)) ≡ false
+one_apart : (ps : Pairs) (a : Attribute) (xs : List Attribute) → Known ps a.name → AreKnown ps xs → list_any (same_pair (expanded a.name)) (expanded_names xs) ≡ false → list_any (same_pair (written (spelling_of ps a.name))) (spellings (map (raw_of ps) xs)) ≡ false
 one_apart ps a [] k known other = refl
 one_apart ps a (b ∷ xs) k known other =
-    let n = neither (bytes_eq (expanded a.name) (expanded b.name)) (list_any (bytes_eq (expanded a.name)) (expanded_names xs)) other in
-    let here = differ (expanded a.name) (expanded b.name) (written (spelling_of ps a.name)) (written (spelling_of ps b.name)) (same_name ps a b k known.0) n.0 in
-    ap (λ (c : Bool). c || list_any (bytes_eq (written (spelling_of ps a.name))) (spellings (map (raw_of ps) xs))) here ∙ one_apart ps a xs k known.1 n.1
+    let n = neither (same_pair (expanded a.name) (expanded b.name)) (list_any (same_pair (expanded a.name)) (expanded_names xs)) other in
+    let here = differ same_pair (expanded a.name) (expanded b.name) (written (spelling_of ps a.name)) (written (spelling_of ps b.name)) (pair_itself (expanded a.name)) (same_name ps a b k known.0) n.0 in
+    ap (λ (c : Bool). c || list_any (same_pair (written (spelling_of ps a.name))) (spellings (map (raw_of ps) xs))) here ∙ one_apart ps a xs k known.1 n.1
 
-pub attributes_apart : (ps : Pairs) (xs : List Attribute) → AreKnown ps xs → has_twins (expanded_names xs) ≡ false → has_twins (spellings (map (raw_of ps) xs)) ≡ false
+pub attributes_apart : (ps : Pairs) (xs : List Attribute) → AreKnown ps xs → has_twins same_pair (expanded_names xs) ≡ false → has_twins same_pair (spellings (map (raw_of ps) xs)) ≡ false
 unfolding has_twins
 attributes_apart ps [] known once = refl
 attributes_apart ps (a ∷ xs) known once =
-    let n = neither (list_any (bytes_eq (expanded a.name)) (expanded_names xs)) (has_twins (expanded_names xs)) once in
-    ap (λ (c : Bool). c || has_twins (spellings (map (raw_of ps) xs))) (one_apart ps a xs known.0 known.1 n.0) ∙ attributes_apart ps xs known.1 n.1
+    let n = neither (list_any (same_pair (expanded a.name)) (expanded_names xs)) (has_twins same_pair (expanded_names xs)) once in
+    ap (λ (c : Bool). c || has_twins same_pair (spellings (map (raw_of ps) xs))) (one_apart ps a xs known.0 known.1 n.0) ∙ attributes_apart ps xs known.1 n.1
 
 pair_spelled : (pair : List ℕ × List ℕ) → IsPair pair → IsSpelling (raw_of_pair pair).name
 pair_spelled pair is = record { prefix = record { first = refl; each = refl }; local = is.name }
@@ -136,27 +137,27 @@ pair_spelled pair is = record { prefix = record { first = refl; each = refl }; l
 pub declaration_spelled : (pair : List ℕ × List ℕ) → IsPair pair → IsSpelling (raw_of_pair pair).name
 declaration_spelled = pair_spelled
 
-from_attributes : (ps : Pairs) (pair : List ℕ × List ℕ) (xs : List Attribute) → IsPair pair → AreGood xs → AreKnown ps xs → list_any (bytes_eq (written (raw_of_pair pair).name)) (spellings (map (raw_of ps) xs)) ≡ false
+from_attributes : (ps : Pairs) (pair : List ℕ × List ℕ) (xs : List Attribute) → IsPair pair → AreGood xs → AreKnown ps xs → list_any (same_pair (written (raw_of_pair pair).name)) (spellings (map (raw_of ps) xs)) ≡ false
 from_attributes ps pair [] is good known = refl
 from_attributes ps pair (a ∷ xs) is good known =
-    let here : bytes_eq (written (raw_of_pair pair).name) (written (spelling_of ps a.name)) ≡ false = false_unless (bytes_eq (written (raw_of_pair pair).name) (written (spelling_of ps a.name))) (λ e.
-    let s : (raw_of_pair pair).name ≡ spelling_of ps a.name = written_apart (raw_of_pair pair).name (spelling_of ps a.name) (pair_spelled pair is) known.0.is (bytes_same _ _ e) in
+    let here : same_pair (written (raw_of_pair pair).name) (written (spelling_of ps a.name)) ≡ false = false_unless (same_pair (written (raw_of_pair pair).name) (written (spelling_of ps a.name))) (λ e.
+    let s : (raw_of_pair pair).name ≡ spelling_of ps a.name = written_apart (raw_of_pair pair).name (spelling_of ps a.name) (pair_spelled pair is) known.0.is (pair_is _ _ e) in
     clash (is_declaration (spelling_of ps a.name)) (ap is_declaration (sym s)) (undeclared ps a good.0 known.0)) in
-    ap (λ (c : Bool). c || list_any (bytes_eq (written (raw_of_pair pair).name)) (spellings (map (raw_of ps) xs))) here ∙ from_attributes ps pair xs is good.1 known.1
+    ap (λ (c : Bool). c || list_any (same_pair (written (raw_of_pair pair).name)) (spellings (map (raw_of ps) xs))) here ∙ from_attributes ps pair xs is good.1 known.1
 
-from_pairs : (pair : List ℕ × List ℕ) (ps : Pairs) (rs : List Raw) → IsPair pair → ArePairs ps → list_any (bytes_eq pair.0) (map (λ pair. pair.0) ps) ≡ false → list_any (bytes_eq (written (raw_of_pair pair).name)) (spellings rs) ≡ false
-    → list_any (bytes_eq (written (raw_of_pair pair).name)) (spellings (map raw_of_pair ps ++ rs)) ≡ false
+from_pairs : (pair : List ℕ × List ℕ) (ps : Pairs) (rs : List Raw) → IsPair pair → ArePairs ps → list_any (bytes_eq pair.0) (map (λ pair. pair.0) ps) ≡ false → list_any (same_pair (written (raw_of_pair pair).name)) (spellings rs) ≡ false
+    → list_any (same_pair (written (raw_of_pair pair).name)) (spellings (map raw_of_pair ps ++ rs)) ≡ false
 from_pairs pair [] rs is are other rest = rest
 from_pairs pair (p ∷ ps) rs is are other rest =
     let n = neither (bytes_eq pair.0 p.0) (list_any (bytes_eq pair.0) (map (λ pair. pair.0) ps)) other in
     let same = λ (e : written (raw_of_pair pair).name ≡ written (raw_of_pair p).name). ap (λ (s : Spelling). s.local) (written_apart (raw_of_pair pair).name (raw_of_pair p).name (pair_spelled pair is) (pair_spelled p are.0) e) in
-    let here = differ pair.0 p.0 (written (raw_of_pair pair).name) (written (raw_of_pair p).name) same n.0 in
-    ap (λ (c : Bool). c || list_any (bytes_eq (written (raw_of_pair pair).name)) (spellings (map raw_of_pair ps ++ rs))) here ∙ from_pairs pair ps rs is are.1 n.1 rest
+    let here = differ bytes_eq pair.0 p.0 (written (raw_of_pair pair).name) (written (raw_of_pair p).name) (same_bytes pair.0) same n.0 in
+    ap (λ (c : Bool). c || list_any (same_pair (written (raw_of_pair pair).name)) (spellings (map raw_of_pair ps ++ rs))) here ∙ from_pairs pair ps rs is are.1 n.1 rest
 
-pub all_apart : (all ps : Pairs) (xs : List Attribute) → ArePairs ps → has_twins (map (λ pair. pair.0) ps) ≡ false → AreGood xs → AreKnown all xs → has_twins (expanded_names xs) ≡ false → has_twins (spellings (map raw_of_pair ps ++ map (raw_of all) xs)) ≡ false
+pub all_apart : (all ps : Pairs) (xs : List Attribute) → ArePairs ps → has_twins bytes_eq (map (λ pair. pair.0) ps) ≡ false → AreGood xs → AreKnown all xs → has_twins same_pair (expanded_names xs) ≡ false → has_twins same_pair (spellings (map raw_of_pair ps ++ map (raw_of all) xs)) ≡ false
 unfolding has_twins
 all_apart all [] xs are different good known once = attributes_apart all xs known once
 all_apart all (pair ∷ ps) xs are different good known once =
-    let n = neither (list_any (bytes_eq pair.0) (map (λ pair. pair.0) ps)) (has_twins (map (λ pair. pair.0) ps)) different in
+    let n = neither (list_any (bytes_eq pair.0) (map (λ pair. pair.0) ps)) (has_twins bytes_eq (map (λ pair. pair.0) ps)) different in
     let here = from_pairs pair ps (map (raw_of all) xs) are.0 are.1 n.0 (from_attributes all pair xs are.0 good known) in
-    ap (λ (c : Bool). c || has_twins (spellings (map raw_of_pair ps ++ map (raw_of all) xs))) here ∙ all_apart all ps xs are.1 n.1 good known once
+    ap (λ (c : Bool). c || has_twins same_pair (spellings (map raw_of_pair ps ++ map (raw_of all) xs))) here ∙ all_apart all ps xs are.1 n.1 good known once

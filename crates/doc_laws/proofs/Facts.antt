@@ -17,7 +17,7 @@ use Rattle.doc_read.specs.declared.fault.DocFault.TheVariants.{Malformed}
 use Rattle.doc_read.specs.declared.scope.Bound.{Bound}
 use Rattle.doc_tree.specs.Characters.{is_allowed}
 use Rattle.doc_read.specs.Lex.{Spelling, Raw, plain, named_reference}
-use Rattle.doc_read.specs.Scope.{has_twins, expanded_names, newer, newest, space_of, is_default, is_declaration, is_xml, declaration_of, unbinds, declared_step, named, or_none, element_name, attribute_space, as_attribute, attribute_of, attributes_in}
+use Rattle.doc_read.specs.Scope.{has_twins, same_pair, expanded_names, newer, newest, space_of, is_default, is_declaration, is_xml, declaration_of, unbinds, declared_step, named, or_none, element_name, attribute_space, as_attribute, attribute_of, attributes_in}
 use Rattle.doc_read.specs.Element.{Head}
 use Rattle.doc_read.specs.Document.{line_piece, line_feeds, unmarked}
 use Rattle.doc_read.specs.Grammar.{IsName, IsPrefix, IsSpelling, spell, Reference, decimal, hexadecimal, print_reference, IsReference, Written, ended, refers, print_written, written_text, IsWritten, SpellsRaw, SpellsRaws, SpellsHead, tag_end, Piece, comment, section, reference, print_piece, piece_text, IsPiece, Content, last, piece, child, print, print_content, content_text, IsContent}
@@ -250,7 +250,7 @@ raws_good scope (r ∷ rs) text all s allowed =
 pub record Facts (h : Head) : Type 0 where
   pub local : IsName h.name.local
   pub attributes : AreGood h.attributes
-  pub named_once : has_twins (expanded_names h.attributes) ≡ false
+  pub named_once : has_twins same_pair (expanded_names h.attributes) ≡ false
   pub scope : AllStand h.scope
 
 named_local : (o : Option (List ℕ)) (local : List ℕ) (n : QName) → named o local ≡ Ok n → n.local ≡ encode_utf8_all local
@@ -268,7 +268,7 @@ head_facts scope text h all s allowed =
     record {
       local = subst IsName (sym (local ∙ name_same h.spelling.local s.tag.name.local)) s.tag.name.local;
       attributes = subst AreGood (sym s.attributes) (raws_good (scope ++ s.own) s.raws s.tag.raws inner s.tag.attributes b.0);
-      named_once = subst (λ (xs : List Attribute). has_twins (expanded_names xs) ≡ false) (sym s.attributes) s.named_once;
+      named_once = subst (λ (xs : List Attribute). has_twins same_pair (expanded_names xs) ≡ false) (sym s.attributes) s.named_once;
       scope = subst (λ (xs : List Bound). AllStand xs) (sym s.inner) inner;
     }
 

@@ -13,7 +13,7 @@ use Rattle.doc_tree.specs.declared.tree.Attribute.{Attribute}
 use Rattle.doc_tree.specs.declared.tree.Prefixes.{Prefixes}
 use Rattle.doc_read.specs.declared.scope.Bound.{Bound}
 use Rattle.doc_read.specs.Lex.{Raw}
-use Rattle.doc_read.specs.Scope.{has_twins, spellings, expanded_names, xml_scope, declared_at, element_name, attributes_in, has_unknown}
+use Rattle.doc_read.specs.Scope.{has_twins, same_pair, spellings, expanded_names, xml_scope, declared_at, element_name, attributes_in, has_unknown}
 use Rattle.doc_read.specs.Element.{Head}
 use Rattle.doc_read.specs.Grammar.{IsName, IsSpelling, spell, print_written, SpellsRaw, SpellsRaws, SpellsTag, SpellsHead, tag_end}
 use Rattle.doc_laws.specs.RoundTrip.{IsPair, ArePairs, ArePrefixes, is_covered}
@@ -120,8 +120,8 @@ pub record WroteHead (names : Prefixes) (is_root : Bool) (name : QName) (xs : Li
   pub same : tag_text names is_root name xs ≡ 60 ∷ encode_utf8_all stem
 
 built : (scope own : List Bound) (ps : Pairs) (raws : List Raw) (text : List ℕ) (name : QName) (xs : List Attribute) (b : Bool) → scope ++ own ≡ scope_of ps
-    → IsSpelling (spelling_of ps name) → SpellsRaws raws text → has_twins (spellings raws) ≡ false → declared_at raws ≡ Ok own → attributes_in (scope_of ps) raws ≡ xs
-    → has_twins (expanded_names xs) ≡ false → has_unknown (scope_of ps) raws ≡ false → element_name (scope_of ps) (spelling_of ps name) ≡ Ok name
+    → IsSpelling (spelling_of ps name) → SpellsRaws raws text → has_twins same_pair (spellings raws) ≡ false → declared_at raws ≡ Ok own → attributes_in (scope_of ps) raws ≡ xs
+    → has_twins same_pair (expanded_names xs) ≡ false → has_unknown (scope_of ps) raws ≡ false → element_name (scope_of ps) (spelling_of ps name) ≡ Ok name
     → SpellsHead scope ((spell (spelling_of ps name) ++ text) ++ tag_end b) (head_of ps name xs b)
 built scope own ps raws text name xs b inner is spelled once declared back named_once none is_named =
     let stem : List ℕ = spell (spelling_of ps name) ++ text in
@@ -134,7 +134,7 @@ built scope own ps raws text name xs b inner is spelled once declared back named
       declared = declared;
       inner = sym inner;
       attributes = sym back ∙ ap (λ (v : List Bound). attributes_in v raws) (sym inner);
-      named_once = ap (λ (v : List Bound). has_twins (expanded_names (attributes_in v raws))) inner ∙ ap (λ (ys : List Attribute). has_twins (expanded_names ys)) back ∙ named_once;
+      named_once = ap (λ (v : List Bound). has_twins same_pair (expanded_names (attributes_in v raws))) inner ∙ ap (λ (ys : List Attribute). has_twins same_pair (expanded_names ys)) back ∙ named_once;
       known = ap (λ (v : List Bound). has_unknown v raws) inner ∙ none;
       name = ap (λ (v : List Bound). element_name v (spelling_of ps name)) inner ∙ is_named;
     }
@@ -151,7 +151,7 @@ tag_is names is_root name xs text k same =
     ∙ ap (λ (x : List ℕ). 60 ∷ x) (sym (encodes-append s text))
 
 pub head_written : (names : Prefixes) (is_root : Bool) (name : QName) (xs : List Attribute) → ArePrefixes names → is_covered names name ≡ true → IsName name.local
-    → list_all (λ a. is_covered names a.name) xs ≡ true → AreGood xs → has_twins (expanded_names xs) ≡ false → WroteHead names is_root name xs
+    → list_all (λ a. is_covered names a.name) xs ≡ true → AreGood xs → has_twins same_pair (expanded_names xs) ≡ false → WroteHead names is_root name xs
 head_written names true name xs are covered local all_covered good once =
     let ps : Pairs = names.pairs in
     let k = known names name are covered local in

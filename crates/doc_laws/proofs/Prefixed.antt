@@ -1,5 +1,5 @@
 -- Names as they are written, in the scope of the declarations of a canonical text.
-use Rattle.std.proofs.Common.{◌≡◌, ℕ, Bool, true, false, ◌||◌, cond, List, [], ◌∷◌, ◌++◌, length, map, Option, Some, None, Ok, refl, sym, ap, subst, ◌∙◌}
+use Rattle.std.proofs.Common.{◌≡◌, ℕ, Bool, true, false, ◌||◌, cond, List, [], ◌∷◌, ◌++◌, length, map, Option, Some, None, Ok, refl, sym, ap, ap₂, subst, ◌∙◌}
 use Rattle.std.specs.Prelude.{encode_utf8_all, codes, ◌==◌}
 use Rattle.std.specs.List.{list_any}
 use Rattle.std.specs.Str.{bytes_eq}
@@ -74,13 +74,13 @@ absent p f (pair ∷ ps) h =
     let other : bytes_eq pair.0 p ≡ false = false_unless (bytes_eq pair.0 p) (λ e. clash (bytes_eq p pair.0) (subst (λ (q : List ℕ). bytes_eq p q ≡ true) (sym (bytes_same pair.0 p e)) (same_bytes p)) k.0) in
     ap (λ (b : Bool). newest p (cond b (Some pair.1) f) (map bound_of ps)) other ∙ absent p f ps k.1
 
-newest_is : (ps : Pairs) (space p : List ℕ) (f : Option (List ℕ)) → has_twins (map (λ pair. pair.0) ps) ≡ false → prefix_of ps space ≡ Some p → newest p f (map bound_of ps) ≡ Some space
+newest_is : (ps : Pairs) (space p : List ℕ) (f : Option (List ℕ)) → has_twins bytes_eq (map (λ pair. pair.0) ps) ≡ false → prefix_of ps space ≡ Some p → newest p f (map bound_of ps) ≡ Some space
 unfolding newest has_twins
 newest_is [] space p f h e = absurd cc
 newest_is (pair ∷ ps) space p f h e = go (bytes_eq pair.1 space) refl e (λ e. newest_is ps space p (newer p f (bound_of pair)) k.1 e)
   where
-    k : (list_any (bytes_eq pair.0) (map (λ pair. pair.0) ps) ≡ false) × (has_twins (map (λ pair. pair.0) ps) ≡ false)
-    k = neither (list_any (bytes_eq pair.0) (map (λ pair. pair.0) ps)) (has_twins (map (λ pair. pair.0) ps)) h
+    k : (list_any (bytes_eq pair.0) (map (λ pair. pair.0) ps) ≡ false) × (has_twins bytes_eq (map (λ pair. pair.0) ps) ≡ false)
+    k = neither (list_any (bytes_eq pair.0) (map (λ pair. pair.0) ps)) (has_twins bytes_eq (map (λ pair. pair.0) ps)) h
 
     here : newest pair.0 (cond (bytes_eq pair.0 pair.0) (Some pair.1) f) (map bound_of ps) ≡ Some pair.1
     here = ap (λ (b : Bool). newest pair.0 (cond b (Some pair.1) f) (map bound_of ps)) (same_bytes pair.0) ∙ absent pair.0 (Some pair.1) ps k.0
@@ -100,7 +100,7 @@ unfolding newest
 unprefixed f [] are = refl
 unprefixed f (pair ∷ ps) are = ap (λ (b : Bool). newest [] (cond b (Some pair.1) f) (map bound_of ps)) (name_some pair.0 are.0.name) ∙ unprefixed f ps are.1
 
-in_scope : (ps : Pairs) (space p : List ℕ) → has_twins (map (λ pair. pair.0) ps) ≡ false → prefix_of ps space ≡ Some p → newest p None (scope_of ps) ≡ Some space
+in_scope : (ps : Pairs) (space p : List ℕ) → has_twins bytes_eq (map (λ pair. pair.0) ps) ≡ false → prefix_of ps space ≡ Some p → newest p None (scope_of ps) ≡ Some space
 unfolding newest
 in_scope ps space p h e = newest_is ps space p _ h e
 
@@ -188,39 +188,17 @@ spell_safe s is = go s.prefix s.local is.prefix is.local
     go [] local none is = name_safe local is
     go (c ∷ cs) local prefix is = all_join safe (c ∷ cs) (58 ∷ local) (name_safe (c ∷ cs) prefix) (name_safe local is)
 
-nothing_follows : Ends []
-nothing_follows = record { no_part = refl; no_colon = λ first. refl }
-
-spell_apart : (s t : Spelling) → IsSpelling s → IsSpelling t → spell s ≡ spell t → s ≡ t
-spell_apart s t a b e =
-    let x : spelled_at (spell s) ≡ Ok (s, []) = ap spelled_at (sym (append-nil (spell s))) ∙ spelled_again s [] a nothing_follows in
-    let y : spelled_at (spell t) ≡ Ok (t, []) = ap spelled_at (sym (append-nil (spell t))) ∙ spelled_again t [] b nothing_follows in
-    ap (λ (p : Spelling × List ℕ). p.0) (is_it (s, []) (t, []) (sym x ∙ ap spelled_at e ∙ y))
+prefix_same : (p : List ℕ) → IsPrefix p → encode_utf8_all p ≡ p
+unfolding lib.Utf8.encode
+prefix_same [] is = refl
+prefix_same (c ∷ cs) is = name_same (c ∷ cs) is
 
 -- two names that are written alike are spelled alike
 pub written_apart : (s t : Spelling) → IsSpelling s → IsSpelling t → written s ≡ written t → s ≡ t
-written_apart s t a b e = go s.prefix t.prefix s.local t.local a.prefix b.prefix a.local b.local e
+written_apart s t a b e =
+    let prefix : s.prefix ≡ t.prefix = sym (prefix_same s.prefix a.prefix) ∙ ap (λ (x : List ℕ × List ℕ). x.0) e ∙ prefix_same t.prefix b.prefix in
+    let local : s.local ≡ t.local = sym (name_same s.local a.local) ∙ ap (λ (x : List ℕ × List ℕ). x.1) e ∙ name_same t.local b.local in
+    ap₂ spelled_as prefix local
   where
-    full : (c : ℕ) (cs local : List ℕ) → IsName (c ∷ cs) → IsName local → written (record { prefix = c ∷ cs; local = local }) ≡ spelling (c ∷ cs) local
-    full c cs local p l = ap (λ (x : List ℕ). x ++ 58 ∷ encode_utf8_all local) (name_same (c ∷ cs) p) ∙ ap (λ (x : List ℕ). (c ∷ cs) ++ 58 ∷ x) (name_same local l)
-
-    no_colon : (c : ℕ) → holds NameStart c ≡ true → 58 ≡ c → ⊥
-    no_colon c start e = clash (holds NameStart 58) (subst (λ (k : ℕ). holds NameStart k ≡ true) (sym e) start) refl
-
-    same : (p l q m : List ℕ) → Type 0
-    same p l q m = (let a : Spelling = record { prefix = p; local = l } in a) ≡ record { prefix = q; local = m }
-
-    go : (p q l m : List ℕ) → IsPrefix p → IsPrefix q → IsName l → IsName m → written (record { prefix = p; local = l }) ≡ written (record { prefix = q; local = m }) → same p l q m
-    go [] [] l m i j k n e =
-        let e' : encode_utf8_all l ≡ encode_utf8_all m = cc in
-        ap (λ (x : List ℕ). record { prefix = []; local = x }) (sym (name_same l k) ∙ e' ∙ name_same m n)
-    go [] (c ∷ cs) l m i j k n e =
-        let e' : 58 ∷ encode_utf8_all l ≡ c ∷ (cs ++ 58 ∷ m) = e ∙ full c cs m j n in
-        let e'' : 58 ≡ c = cc in
-        absurd (no_colon c j.first e'')
-    go (c ∷ cs) [] l m i j k n e =
-        let e' : 58 ∷ encode_utf8_all m ≡ c ∷ (cs ++ 58 ∷ l) = sym e ∙ full c cs l i k in
-        let e'' : 58 ≡ c = cc in
-        absurd (no_colon c i.first e'')
-    go (c ∷ cs) (d ∷ ds) l m i j k n e =
-        spell_apart (record { prefix = c ∷ cs; local = l }) (record { prefix = d ∷ ds; local = m }) (record { prefix = i; local = k }) (record { prefix = j; local = n }) (sym (full c cs l i k) ∙ e ∙ full d ds m j n)
+    spelled_as : List ℕ → List ℕ → Spelling
+    spelled_as p l = record { prefix = p; local = l }

@@ -28,7 +28,7 @@ ArePairs (pair ∷ pairs) = IsPair pair × ArePairs pairs
 -- prefixes that one tag can declare: no prefix comes twice
 pub record ArePrefixes (names : Prefixes) : Type 0 where
   pub pairs : ArePairs names.pairs
-  pub different : has_twins (map (λ pair. pair.0) names.pairs) ≡ false
+  pub different : has_twins bytes_eq (map (λ pair. pair.0) names.pairs) ≡ false
 
 -- the name is in no space, or a prefix stands for its space
 abbrev pub is_covered : Prefixes → QName → Bool
