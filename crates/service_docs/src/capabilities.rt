@@ -5,7 +5,7 @@ ghost use Rattle.std.specs.List.{flat_map};
 ghost use Rattle.wfs_ends.specs.Ends.{Gives, Writes};
 ghost use Rattle.service_docs.specs.CapabilitiesDocument.{operation_text, post_operation_text, operations_text, other_system_text, some_systems_text, systems_text, type_text, declared_text, capabilities_document};
 
-use crate::schema_document::{put_escaped, put_name};
+use doc_tree::{put_escaped, put_plain};
 use feature_values::{FeatureType, Schema};
 use wfs_ends::{List, Sink, Text, WriteFault, put_on};
 
@@ -107,11 +107,11 @@ fn put_type<S: Sink>(sink: &mut S, failed: bool, schema: &Schema, of_type: &Feat
     ensures { Writes (record { shown = S.sink sink.old; failed = failed }) (type_text schema.now of_type.now) (record { shown = S.sink sink.new; failed = result }) }
 {
     let failed = put_on(sink, failed, b"<wfs:FeatureType><wfs:Name>");
-    let failed = put_name(sink, failed, &schema.prefix);
+    let failed = put_plain(sink, failed, &schema.prefix);
     let failed = put_on(sink, failed, b":");
-    let failed = put_name(sink, failed, &of_type.name);
+    let failed = put_plain(sink, failed, &of_type.name);
     let failed = put_on(sink, failed, b"</wfs:Name><wfs:Title>");
-    let failed = put_name(sink, failed, &of_type.name);
+    let failed = put_plain(sink, failed, &of_type.name);
     let failed = put_on(sink, failed, b"</wfs:Title>");
     let failed = put_systems(sink, failed, &schema.srs);
     put_on(sink, failed, b"</wfs:FeatureType>")
@@ -133,7 +133,7 @@ fn put_declared<S: Sink>(sink: &mut S, failed: bool, schema: &Schema) -> bool
     ensures { Writes (record { shown = S.sink sink.old; failed = failed }) (declared_text schema.now) (record { shown = S.sink sink.new; failed = result }) }
 {
     let failed = put_on(sink, failed, START);
-    let failed = put_name(sink, failed, &schema.prefix);
+    let failed = put_plain(sink, failed, &schema.prefix);
     let failed = put_on(sink, failed, b"=\"");
     let failed = put_escaped(sink, failed, &schema.space, true);
     put_on(sink, failed, b"\" version=\"2.0.2\">")

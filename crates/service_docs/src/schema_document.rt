@@ -3,10 +3,9 @@
 ghost use Rattle.std.specs.Prelude.{◌≡◌};
 ghost use Rattle.std.specs.List.{flat_map};
 ghost use Rattle.wfs_ends.specs.Ends.{Gives, Writes};
-ghost use Rattle.doc_tree.specs.Escape.{escaped};
 ghost use Rattle.service_docs.specs.SchemaDocument.{kind_name, occurs_text, property_text, some_properties_text, properties_text, type_text, numbered_text, new_number, each_once, is_among, declared_text, schema_document};
 
-use doc_tree::put_text_on;
+use doc_tree::{put_escaped, put_plain};
 use feature_values::{FeatureType, Property, Schema, ValueKind};
 use wfs_ends::{List, Sink, Text, WriteFault, put_on};
 
@@ -16,20 +15,6 @@ const START: &[u8] =
 
 const IMPORT: &[u8] =
     b"\" elementFormDefault=\"qualified\"><xs:import namespace=\"http://www.opengis.net/gml/3.2\" schemaLocation=\"http://schemas.opengis.net/gml/3.2.1/gml.xsd\"/>";
-
-// Gives a name as it is.
-pub(crate) fn put_name<S: Sink>(sink: &mut S, failed: bool, name: &Text) -> bool
-    ensures { Writes (record { shown = S.sink sink.old; failed = failed }) name.now (record { shown = S.sink sink.new; failed = result }) }
-{
-    put_on(sink, failed, name.as_str().as_bytes())
-}
-
-// Gives a text between tags, or in a value.
-pub(crate) fn put_escaped<S: Sink>(sink: &mut S, failed: bool, text: &Text, in_value: bool) -> bool
-    ensures { Writes (record { shown = S.sink sink.old; failed = failed }) (escaped in_value text.now) (record { shown = S.sink sink.new; failed = result }) }
-{
-    put_text_on(sink, failed, text.as_str(), in_value)
-}
 
 // The type of the values of a kind.
 fn kind_name(kind: ValueKind) -> &'static [u8]
@@ -67,7 +52,7 @@ fn put_property<S: Sink>(sink: &mut S, failed: bool, property: &Property) -> boo
     ensures { Writes (record { shown = S.sink sink.old; failed = failed }) (property_text property.now) (record { shown = S.sink sink.new; failed = result }) }
 {
     let failed = put_on(sink, failed, b"<xs:element name=\"");
-    let failed = put_name(sink, failed, &property.name);
+    let failed = put_plain(sink, failed, &property.name);
     let failed = put_on(sink, failed, b"\" type=\"");
     let failed = put_kind(sink, failed, property.kind);
     let failed = put_on(sink, failed, b"\"");
@@ -110,17 +95,17 @@ fn put_type<S: Sink>(sink: &mut S, failed: bool, schema: &Schema, of_type: &Feat
     ensures { Writes (record { shown = S.sink sink.old; failed = failed }) (type_text schema.now of_type.now) (record { shown = S.sink sink.new; failed = result }) }
 {
     let failed = put_on(sink, failed, b"<xs:element name=\"");
-    let failed = put_name(sink, failed, &of_type.name);
+    let failed = put_plain(sink, failed, &of_type.name);
     let failed = put_on(sink, failed, b"\" type=\"");
-    let failed = put_name(sink, failed, &schema.prefix);
+    let failed = put_plain(sink, failed, &schema.prefix);
     let failed = put_on(sink, failed, b":");
-    let failed = put_name(sink, failed, &of_type.name);
+    let failed = put_plain(sink, failed, &of_type.name);
     let failed = put_on(
         sink,
         failed,
         b"Type\" substitutionGroup=\"gml:AbstractFeature\"/><xs:complexType name=\"",
     );
-    let failed = put_name(sink, failed, &of_type.name);
+    let failed = put_plain(sink, failed, &of_type.name);
     let failed = put_on(
         sink,
         failed,
@@ -196,7 +181,7 @@ fn put_declared<S: Sink>(sink: &mut S, failed: bool, schema: &Schema) -> bool
     ensures { Writes (record { shown = S.sink sink.old; failed = failed }) (declared_text schema.now) (record { shown = S.sink sink.new; failed = result }) }
 {
     let failed = put_on(sink, failed, START);
-    let failed = put_name(sink, failed, &schema.prefix);
+    let failed = put_plain(sink, failed, &schema.prefix);
     let failed = put_on(sink, failed, b"=\"");
     let failed = put_escaped(sink, failed, &schema.space, true);
     let failed = put_on(sink, failed, b"\" targetNamespace=\"");
