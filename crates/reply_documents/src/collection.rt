@@ -9,8 +9,8 @@ ghost use Rattle.reply_documents.specs.Collection.{declared_text, counted_text, 
 use crate::answer::put_number;
 use crate::feature::{find_type, put_feature};
 use crate::lock::put_lock;
-use crate::names::{put_escaped, put_name};
 use civil_time::moment_text;
+use doc_tree::{put_escaped, put_plain};
 use feature_values::{Feature, FeatureType, Schema};
 use lock_table::LockId;
 use wfs_ends::{List, Sink, Text, put_on};
@@ -31,7 +31,7 @@ pub(crate) fn put_declared<S: Sink>(
         failed,
         b" xmlns:wfs=\"http://www.opengis.net/wfs/2.0\" xmlns:gml=\"http://www.opengis.net/gml/3.2\" xmlns:",
     );
-    let failed = put_name(sink, failed, &schema.prefix);
+    let failed = put_plain(sink, failed, &schema.prefix);
     let failed = put_on(sink, failed, b"=\"");
     let failed = put_escaped(sink, failed, &schema.space, true);
     put_on(sink, failed, b"\"")

@@ -7,8 +7,9 @@ ghost use Rattle.wfs_ends.specs.Ends.{Writes};
 ghost use Rattle.reply_documents.specs.Features.{rid_text, property_text, properties_text, has_value, filled_text, inside_text, feature_text, bare_text, bare_body, type_of};
 
 use crate::answer::put_number;
-use crate::names::{put_end_tag, put_escaped, put_name};
+use crate::names::put_end_tag;
 use crate::value::{is_null, put_property};
+use doc_tree::{put_escaped, put_plain};
 use feature_values::{Feature, FeatureType, Property, Schema, Value};
 use wfs_ends::{Sink, put_on};
 
@@ -132,9 +133,9 @@ pub(crate) fn put_feature<S: Sink>(
     ensures { Writes (record { shown = S.sink sink.old; failed = failed }) (feature_text schema.now of_type.now feature.now) (record { shown = S.sink sink.new; failed = result }) }
 {
     let failed = put_on(sink, failed, b"<");
-    let failed = put_name(sink, failed, &schema.prefix);
+    let failed = put_plain(sink, failed, &schema.prefix);
     let failed = put_on(sink, failed, b":");
-    let failed = put_name(sink, failed, &of_type.name);
+    let failed = put_plain(sink, failed, &of_type.name);
     let failed = put_on(sink, failed, b" gml:id=\"");
     let failed = put_rid(sink, failed, of_type, feature.id.number);
     let failed = put_on(sink, failed, b"\"");
@@ -152,15 +153,15 @@ fn put_typed_bare<S: Sink>(
     ensures { Writes (record { shown = S.sink sink.old; failed = failed }) (bare_text schema.now of_type.now feature.now) (record { shown = S.sink sink.new; failed = result }) }
 {
     let failed = put_on(sink, failed, b"<?xml version=\"1.0\" encoding=\"UTF-8\"?><");
-    let failed = put_name(sink, failed, &schema.prefix);
+    let failed = put_plain(sink, failed, &schema.prefix);
     let failed = put_on(sink, failed, b":");
-    let failed = put_name(sink, failed, &of_type.name);
+    let failed = put_plain(sink, failed, &of_type.name);
     let failed = put_on(
         sink,
         failed,
         b" xmlns:gml=\"http://www.opengis.net/gml/3.2\" xmlns:",
     );
-    let failed = put_name(sink, failed, &schema.prefix);
+    let failed = put_plain(sink, failed, &schema.prefix);
     let failed = put_on(sink, failed, b"=\"");
     let failed = put_escaped(sink, failed, &schema.space, true);
     let failed = put_on(sink, failed, b"\" gml:id=\"");

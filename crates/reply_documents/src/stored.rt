@@ -7,9 +7,9 @@ ghost use Rattle.wfs_model.specs.Stored.{is_id_query};
 ghost use Rattle.reply_documents.specs.Features.{truth_text};
 ghost use Rattle.reply_documents.specs.StoredQueries.{some_title_text, title_text, is_plain, some_named_text, inside_named_text, named_text, parameter_text, some_expression_text, expression_text, whole_text, declared_text, some_named_list, named_list, stored_list_body, some_whole_list, whole_list, stored_texts_body};
 
-use crate::names::{put_escaped, put_name};
 use crate::stored_types::{is_id_query, put_return_types};
 use crate::value::put_truth;
+use doc_tree::{put_escaped, put_plain};
 use feature_values::Schema;
 use wfs_ends::{List, Sink, Text, put_on};
 use wfs_model::StoredQuery;
@@ -33,7 +33,7 @@ fn put_declared<S: Sink>(sink: &mut S, failed: bool, start: &[u8], schema: &Sche
     ensures { Writes (record { shown = S.sink sink.old; failed = failed }) (declared_text start.now schema.now) (record { shown = S.sink sink.new; failed = result }) }
 {
     let failed = put_on(sink, failed, start);
-    let failed = put_name(sink, failed, &schema.prefix);
+    let failed = put_plain(sink, failed, &schema.prefix);
     let failed = put_on(sink, failed, b"=\"");
     let failed = put_escaped(sink, failed, &schema.space, true);
     put_on(sink, failed, b"\"")
@@ -198,7 +198,7 @@ fn put_some_expression<S: Sink>(sink: &mut S, failed: bool, text: &Text) -> bool
     ensures { Writes (record { shown = S.sink sink.old; failed = failed }) (some_expression_text text.now) (record { shown = S.sink sink.new; failed = result }) }
 {
     let failed = put_on(sink, failed, b">");
-    let failed = put_name(sink, failed, text);
+    let failed = put_plain(sink, failed, text);
     put_on(sink, failed, b"</wfs:QueryExpressionText>")
 }
 

@@ -7,7 +7,7 @@ ghost use Rattle.wfs_ends.specs.Ends.{Writes};
 ghost use Rattle.wfs_model.specs.Stored.{is_id_query};
 ghost use Rattle.reply_documents.specs.StoredQueries.{is_same_kind, is_asked_before, type_asked, types_asked, type_between, asked_text, still_none, types_between, return_types_text};
 
-use crate::names::put_name;
+use doc_tree::put_plain;
 use feature_values::{FeatureType, Schema};
 use fes_filter::{Query, type_in};
 use wfs_ends::{Sink, put_on};
@@ -69,9 +69,9 @@ fn put_type<S: Sink>(
     ensures { Writes (record { shown = S.sink sink.old; failed = failed }) (type_between start.now schema.now end.now of_type.now) (record { shown = S.sink sink.new; failed = result }) }
 {
     let failed = put_on(sink, failed, start);
-    let failed = put_name(sink, failed, &schema.prefix);
+    let failed = put_plain(sink, failed, &schema.prefix);
     let failed = put_on(sink, failed, b":");
-    let failed = put_name(sink, failed, &of_type.name);
+    let failed = put_plain(sink, failed, &of_type.name);
     put_on(sink, failed, end)
 }
 

@@ -7,7 +7,7 @@ ghost use Rattle.reply_documents.specs.Transacted.{some_handle_text, handle_text
 
 use crate::answer::put_number;
 use crate::feature::{find_type, put_rid};
-use crate::names::put_escaped;
+use doc_tree::put_escaped;
 use feature_values::{FeatureType, Schema};
 use wfs_ends::{List, Sink, Text, put_on};
 use wfs_model::Made;

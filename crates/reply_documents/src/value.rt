@@ -8,7 +8,8 @@ ghost use Rattle.feature_values.specs.Fits.{is_null};
 ghost use Rattle.gml_docs.specs.Printed.{id_text, geometry_text};
 ghost use Rattle.reply_documents.specs.Features.{first_name, truth_text, value_text, is_blank, valued_text, property_text};
 
-use crate::names::{put_empty_tag, put_end_tag, put_escaped, put_start_tag};
+use crate::names::{put_empty_tag, put_end_tag, put_start_tag};
+use doc_tree::put_escaped;
 use feature_values::{FeatureType, Property, Schema, Value};
 use geom_core::Geometry;
 use gml_docs::{GeometryId, put_geometry};
