@@ -1,4 +1,5 @@
 pub mod Firsts
+pub mod Fitting
 pub mod Keeping
 pub mod Layings
 pub mod Mapped

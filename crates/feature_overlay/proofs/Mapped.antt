@@ -1,5 +1,5 @@
 -- A map of changes, and what has changed under an identifier.
-use Rattle.std.proofs.Common.{◌≡◌, ℕ, cond, List, [], ◌∷◌, Option, Some, refl, sym, ap, ◌∙◌, subst, arith}
+use Rattle.std.proofs.Common.{All, ◌≡◌, ℕ, cond, List, [], ◌∷◌, Option, Some, refl, sym, ap, ◌∙◌, subst, arith}
 use Rattle.std.specs.declared.cmp.Ordering.{Ordering}
 use Rattle.std.specs.declared.cmp.Ordering.TheVariants.{Less, Equal, Greater}
 use Rattle.std.specs.Ordering.{ordering_then, nat_cmp, is_eq, match_ordering}
@@ -42,14 +42,19 @@ change_put id now old new is other =
 abbrev pub KeyedChange : Change → Type 0
 KeyedChange change = IsOf (id_of change.0) change.1
 
-keyed_at : (id : Rid) (now : Option Feature) (change : Change) (changes more : List Change) (o : Ordering) → key_order (key_of id) change.0 ≡ o → IsOf id now → AreKeyed (change ∷ changes) → AreKeyed more → AreKeyed (match_ordering o ((key_of id, now) ∷ change ∷ changes) ((change.0, now) ∷ changes) (change ∷ more))
-keyed_at id now change changes more Less is of keyed rest = All-cons KeyedChange (key_of id, now) (change ∷ changes) of keyed
-keyed_at id now change changes more Equal is of keyed rest =
-    let same : id ≡ id_of change.0 = same_is id (id_of change.0) (sym (key_same id change.0) ∙ ap is_eq is) in
-    All-cons KeyedChange (change.0, now) changes (subst (λ i. IsOf i now) same of) (All-tail KeyedChange change changes keyed)
-keyed_at id now change changes more Greater is of keyed rest = All-cons KeyedChange change more (All-head KeyedChange change changes keyed) rest
+-- what holds of each change holds of each with one more
+module _ (P : Rid → Option Feature → Type 0) where
+  abbrev Of : Change → Type 0
+  Of change = P (id_of change.0) change.1
 
-pub keyed_put : (id : Rid) (now : Option Feature) (changes : List Change) → IsOf id now → AreKeyed changes → AreKeyed (insert_entry key_order changes (key_of id) now)
-keyed_put id now [] of keyed = All-cons KeyedChange (key_of id, now) [] of (All-nil KeyedChange)
-keyed_put id now (change ∷ changes) of keyed =
-    keyed_at id now change changes (insert_entry key_order changes (key_of id) now) (key_order (key_of id) change.0) refl of keyed (keyed_put id now changes of (All-tail KeyedChange change changes keyed))
+  put_at : (id : Rid) (now : Option Feature) (change : Change) (changes more : List Change) (o : Ordering) → key_order (key_of id) change.0 ≡ o → P id now → All Of (change ∷ changes) → All Of more → All Of (match_ordering o ((key_of id, now) ∷ change ∷ changes) ((change.0, now) ∷ changes) (change ∷ more))
+  put_at id now change changes more Less is of all rest = All-cons Of (key_of id, now) (change ∷ changes) of all
+  put_at id now change changes more Equal is of all rest =
+      let same : id ≡ id_of change.0 = same_is id (id_of change.0) (sym (key_same id change.0) ∙ ap is_eq is) in
+      All-cons Of (change.0, now) changes (subst (λ i. P i now) same of) (All-tail Of change changes all)
+  put_at id now change changes more Greater is of all rest = All-cons Of change more (All-head Of change changes all) rest
+
+  pub all_put : (id : Rid) (now : Option Feature) (changes : List Change) → P id now → All Of changes → All Of (insert_entry key_order changes (key_of id) now)
+  all_put id now [] of all = All-cons Of (key_of id, now) [] of (All-nil Of)
+  all_put id now (change ∷ changes) of all =
+      put_at id now change changes (insert_entry key_order changes (key_of id) now) (key_order (key_of id) change.0) refl of all (all_put id now changes of (All-tail Of change changes all))

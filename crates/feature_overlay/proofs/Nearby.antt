@@ -1,5 +1,5 @@
 -- The identifiers near a box: those that the view gives, without what has changed, and those of what was put.
-use Rattle.std.proofs.Common.{◌≡◌, ℕ, suc, zero, Bool, true, false, cond, not, ◌&&◌, ◌==◌, List, [], ◌∷◌, ◌++◌, filter, map, All, IsTrue, Option, Some, None, refl, sym, ap, ◌∙◌, subst, arith}
+use Rattle.std.proofs.Common.{◌≡◌, ℕ, suc, zero, ◌+◌, ◌≤◌, length, Bool, true, false, cond, not, ◌&&◌, ◌==◌, List, [], ◌∷◌, ◌++◌, filter, map, All, IsTrue, Option, Some, None, refl, sym, ap, ◌∙◌, subst, arith}
 use Rattle.std.specs.Prelude.{Contains, is_some}
 use Rattle.std.specs.Option.{unwrap_or}
 use Rattle.std.specs.List.Sorted.{IsStrictlySortedBy}
@@ -7,6 +7,7 @@ use Rattle.std.specs.Map.{keys_of}
 use Rattle.std.proofs.lemmas.Bool.{false≢true}
 use Rattle.std.proofs.lemmas.Bool.Decides.{nat_tests}
 use Rattle.std.proofs.lemmas.Option.{none-some, same_Some}
+use Rattle.std.proofs.lemmas.List.{length-append}
 use Rattle.std.proofs.lemmas.List.Elements.{All-nil, All-cons, All-head, All-tail, All-append, All-filter, All-weaker, filter_passes, Contains-append_left, Contains-append_right}
 use Rattle.geom_core.specs.Plane.{Bounds}
 use Rattle.feature_values.specs.declared.feature.Feature.{Feature}
@@ -157,3 +158,25 @@ pub near_once : (kind : ℕ) (changes : List Change) (ids : List Rid) → IsOnce
 near_once kind changes ids once more =
     once_append (filter (unchanged changes) ids) (put_ids kind changes) (once_filter (unchanged changes) ids once) more
     (All-weaker (λ id. unchanged changes id ≡ true) (λ id. All (Apart id) (put_ids kind changes)) (λ id is. put_apart kind id changes (no_change (change_at id changes) is)) (filter (unchanged changes) ids) (filter_passes (unchanged changes) ids))
+
+-- ---- how many
+
+put_few_at : (b : Bool) (change : Change) (kept changes : List Change) → length (ids_of kept) ≤ length changes → length (ids_of (cond b (change ∷ kept) kept)) ≤ suc (length changes)
+put_few_at true change kept changes le = omega (arith, le)
+put_few_at false change kept changes le = omega (arith, le)
+
+put_few : (kind : ℕ) (changes : List Change) → length (put_ids kind changes) ≤ length changes
+put_few kind [] = omega arith
+put_few kind (change ∷ changes) = put_few_at (is_put kind change) change (filter (is_put kind) changes) changes (put_few kind changes)
+
+kept_few_at : (b : Bool) (id : Rid) (kept ids : List Rid) → length kept ≤ length ids → length (cond b (id ∷ kept) kept) ≤ suc (length ids)
+kept_few_at true id kept ids le = omega (arith, le)
+kept_few_at false id kept ids le = omega (arith, le)
+
+kept_few : (p : Rid → Bool) (ids : List Rid) → length (filter p ids) ≤ length ids
+kept_few p [] = omega arith
+kept_few p (id ∷ ids) = kept_few_at (p id) id (filter p ids) ids (kept_few p ids)
+
+pub near_few : (kind : ℕ) (changes : List Change) (ids : List Rid) (most : ℕ) → length ids ≤ most → length (near_ids kind changes ids) ≤ most + length changes
+near_few kind changes ids most few =
+    rw (length-append (filter (unchanged changes) ids) (put_ids kind changes)) (omega (arith, few, kept_few (unchanged changes) ids, put_few kind changes))

@@ -1,11 +1,13 @@
 -- What has changed, by identifier.
-use Rattle.std.specs.Prelude.{◌≡◌, ℕ, ◌==◌, ◌&&◌, List, [], ◌∷◌, filter, map, All, Option, None, Some, if◌then◌else◌, is_some}
+use Rattle.std.specs.Prelude.{◌≡◌, ℕ, ◌==◌, ◌&&◌, List, [], ◌∷◌, filter, map, All, Option, None, Some, Ok, if◌then◌else◌, is_some}
 use Rattle.std.specs.Option.{option_or, unwrap_or, IfSome}
 use Rattle.std.specs.Map.{lookup}
 use Rattle.std.specs.declared.ops.Bound.{Bound}
 use Rattle.std.specs.declared.ops.Bound.TheVariants.{Excluded, Unbounded}
 use Rattle.feature_values.specs.declared.feature.Feature.{Feature}
 use Rattle.feature_values.specs.declared.feature.Rid.{Rid}
+use Rattle.feature_values.specs.declared.schema.Schema.{Schema}
+use Rattle.feature_values.specs.Fits.{feature_fits}
 use Rattle.fes_filter.specs.View.{is_same, feature_at}
 use Rattle.feature_overlay.specs.Laid.{Change, id_of}
 
@@ -15,6 +17,13 @@ IsOf id now = IfSome now (λ f. f.id ≡ id)
 
 abbrev pub AreKeyed : List Change → Type 0
 AreKeyed changes = All (λ change. IsOf (id_of change.0) change.1) changes
+
+-- a feature that stands now is allowed by the schema
+abbrev pub FitsIf : Schema → Option Feature → Type 0
+FitsIf schema now = IfSome now (λ f. feature_fits schema f ≡ Ok tt)
+
+abbrev pub AreFitting : Schema → List Change → Type 0
+AreFitting schema changes = All (λ change. FitsIf schema change.1) changes
 
 -- what has changed under an identifier
 abbrev pub change_at : Rid → List Change → Option (Option Feature)

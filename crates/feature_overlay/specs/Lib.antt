@@ -1,4 +1,4 @@
 pub mod Changed
 pub mod First
-pub mod InOrder
 pub mod Laid
+pub mod Views

@@ -3,8 +3,9 @@
 ghost use Rattle.std.specs.Prelude.{◌≡◌, ◌++◌, IfOk, OnErr, OnOk, Some, None, filter, is_some, not, if◌then◌else◌};
 ghost use Rattle.std.specs.Option.{option_copied};
 ghost use Rattle.feature_values.specs.declared.feature.Rid.{Rid};
+ghost use Rattle.feature_values.specs.declared.schema.Schema.{Schema};
 ghost use Rattle.fes_filter.specs.View.{is_same, IsOnce};
-ghost use Rattle.feature_overlay.specs.Changed.{change_at, put_at, put_ids, first_put, start_of, IsOf, AreKeyed};
+ghost use Rattle.feature_overlay.specs.Changed.{change_at, put_at, put_ids, first_put, start_of, IsOf, AreKeyed, FitsIf, AreFitting};
 ghost use Rattle.feature_overlay.specs.First.{IsFirst};
 
 use feature_values::{Feature, Rid};
@@ -28,6 +29,7 @@ pub(crate) fn change(changes: &mut Changes, id: Rid, now: Option<Feature>) -> Me
     ensures ok { OnOk result ((other : Rid) → change_at other changes.new.entries ≡ (if is_same id other then Some now else change_at other changes.old.entries)) }
     ensures err { OnErr result (changes.new.entries ≡ changes.old.entries) }
     ensures keyed { IsOf id now → AreKeyed changes.old.entries → AreKeyed changes.new.entries }
+    ensures fitting { (schema : Schema) → FitsIf schema now → AreFitting schema changes.old.entries → AreFitting schema changes.new.entries }
 {
     match changes.insert(key_of(id), now) {
         Ok(_) => Ok(()),

@@ -1,10 +1,11 @@
 //! A view with changes laid over it.
 
-ghost use Rattle.std.specs.Prelude.{◌≡◌, OnErr, OnOk, Some, None};
+ghost use Rattle.std.specs.Prelude.{◌≡◌, ◌+◌, OnErr, OnOk, Some, None, Ok, length};
 ghost use Rattle.std.proofs.Props.{props};
-ghost use Rattle.fes_filter.specs.View.{IsInOrder};
-ghost use Rattle.feature_overlay.specs.InOrder.{in_order_prop};
-ghost use Rattle.feature_overlay.specs.Changed.{AreKeyed};
+ghost use Rattle.feature_values.specs.Fits.{feature_fits};
+ghost use Rattle.fes_filter.specs.View.{IsView};
+ghost use Rattle.feature_overlay.specs.Views.{view_prop, fitting_prop};
+ghost use Rattle.feature_overlay.specs.Changed.{AreKeyed, AreFitting};
 ghost use Rattle.feature_overlay.specs.Laid.{laid, all_laid};
 
 use crate::changes::{Changes, change, changed, kept_ids, next_put, push_put};
@@ -21,12 +22,13 @@ use wfs_ends::{List, Mem};
 pub struct Overlay<'a, V: FeatureView> {
     view: &'a V,
     changes: Changes,
-    ghost in_order: { IsInOrder (V.features view.now) } by { in_order_prop (V.features view.now) },
+    ghost is_view: { IsView (V.schema view.now) (V.features view.now) } by { view_prop (V.schema view.now) (V.features view.now) },
     ghost keyed: { AreKeyed changes.entries } by { Prim.hlevel props },
+    ghost fitting: { AreFitting (V.schema view.now) changes.entries } by { fitting_prop (V.schema view.now) changes.entries },
 }
 
 impl<'a, V: FeatureView> Overlay<'a, V> {
-    /// A view without changes. The one call of `next` tells that its features are in order.
+    /// A view without changes. The one call of `next` tells that its features are in order and fit its schema.
     pub fn over(alloc: Global, view: &'a V) -> Overlay<'a, V>
         ensures features { ⟦<Overlay<'a, V> as FeatureView>⟧.features result ≡ V.features view.now }
         ensures schema { ⟦<Overlay<'a, V> as FeatureView>⟧.schema result ≡ V.schema view.now }
@@ -38,8 +40,9 @@ impl<'a, V: FeatureView> Overlay<'a, V> {
         }
     }
 
-    /// The feature stands under its identifier, whether one stood there before or not.
+    /// The feature stands under its identifier, whether one stood there before or not. The view's schema allows it.
     pub fn put(&mut self, feature: Feature) -> Mem<()>
+        requires { feature_fits (⟦<Overlay<'a, V> as FeatureView>⟧.schema self.old) feature ≡ Ok tt }
         ensures ok { let features = ⟦<Overlay<'a, V> as FeatureView>⟧.features in OnOk result (features self.new ≡ laid (features self.old) feature.id (Some feature)) }
         ensures err { let features = ⟦<Overlay<'a, V> as FeatureView>⟧.features in OnErr result (features self.new ≡ features self.old) }
         ensures schema { let schema = ⟦<Overlay<'a, V> as FeatureView>⟧.schema in schema self.new ≡ schema self.old }
@@ -62,6 +65,8 @@ impl<'a, V: FeatureView> FeatureView for Overlay<'a, V> {
 
     ghost schema = { λ overlay. V.schema overlay.view.now };
 
+    ghost most_near = { λ overlay kind area. V.most_near overlay.view.now kind area + length overlay.changes.entries };
+
     fn get(&self, id: Rid) -> Option<&Feature> {
         match changed(&self.changes, id) {
             Some(change) => change.as_ref(),
@@ -70,8 +75,14 @@ impl<'a, V: FeatureView> FeatureView for Overlay<'a, V> {
     }
 
     fn next(&self, after: Option<Rid>) -> Option<&Feature> {
+        let mut place = 0;
+        self.walk(after, &mut place)
+    }
+
+    // The place is the view's.
+    fn walk(&self, after: Option<Rid>, place: &mut u64) -> Option<&Feature> {
         lesser(
-            next_kept(self.view, &self.changes, after),
+            next_kept(self.view, &self.changes, after, place),
             next_put(&self.changes, after),
         )
     }

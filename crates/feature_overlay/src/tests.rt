@@ -1,11 +1,13 @@
 //! Changes laid over a few features. What is expected was worked out by hand.
+ghost use Rattle.std.specs.Prelude.{◌≡◌};
+
 use super::*;
-use feature_values::{Feature, Rid, Value};
+use feature_values::{Feature, Rid, Schema, Value, fits};
 use fes_filter::FeatureView;
 use geom_core::Box2;
 use std::alloc::Global;
 use std::test::Fail;
-use wfs_ends::Mem;
+use wfs_ends::{Mem, OutOfMemory};
 
 mod views;
 
@@ -120,10 +122,25 @@ fn rid(place: Place) -> Rid {
     Rid { kind, number }
 }
 
-fn step(alloc: Global, overlay: &mut Overlay<'_, SampleView>, of: Step) -> Mem<()> {
+/// A mark that does not fit is put as if there were no memory.
+fn put(alloc: Global, overlay: &mut Overlay<'_, SampleView>, schema: &Schema, mark: Mark) -> Mem<()>
+    requires { overlay.old.view.now.schema ≡ schema.now }
+    ensures { overlay.new.view.now.schema ≡ schema.now }
+{
+    let feature = marked(alloc, mark)?;
+    let Ok(()) = fits(schema, &feature) else {
+        return Err(OutOfMemory);
+    };
+    overlay.put(feature)
+}
+
+fn step(alloc: Global, overlay: &mut Overlay<'_, SampleView>, schema: &Schema, of: Step) -> Mem<()>
+    requires { overlay.old.view.now.schema ≡ schema.now }
+    ensures { overlay.new.view.now.schema ≡ schema.now }
+{
     let (place, mark) = of;
     match mark {
-        Some(mark) => overlay.put(marked(alloc, (place, mark))?),
+        Some(mark) => put(alloc, overlay, schema, (place, mark)),
         None => overlay.remove(rid(place)),
     }
 }
@@ -131,7 +148,7 @@ fn step(alloc: Global, overlay: &mut Overlay<'_, SampleView>, of: Step) -> Mem<(
 fn laid<'a>(alloc: Global, view: &'a SampleView, steps: &[Step]) -> Mem<Overlay<'a, SampleView>> {
     let mut overlay = Overlay::over(alloc, view);
     for one in steps {
-        step(alloc, &mut overlay, *one)?;
+        step(alloc, &mut overlay, &view.schema, *one)?;
     }
     Ok(overlay)
 }
@@ -150,13 +167,14 @@ fn is_found(found: Option<&Feature>, of: Mark) -> bool {
 
 fn walks(overlay: &Overlay<'_, SampleView>, wanted: &[Mark]) -> bool {
     let mut after = None;
+    let mut place = 0;
     for mark in wanted {
-        if !is_found(overlay.next(after), *mark) {
+        if !is_found(overlay.walk(after, &mut place), *mark) {
             return false;
         }
         after = Some(rid(mark.0));
     }
-    overlay.next(after).is_none()
+    overlay.walk(after, &mut place).is_none()
 }
 
 fn finds(overlay: &Overlay<'_, SampleView>, wanted: &[Mark]) -> bool {

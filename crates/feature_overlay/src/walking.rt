@@ -2,7 +2,7 @@
 
 ghost use Rattle.std.specs.Prelude.{◌≡◌};
 ghost use Rattle.std.specs.Option.{option_copied};
-ghost use Rattle.fes_filter.specs.View.{is_before, IsInOrder};
+ghost use Rattle.fes_filter.specs.View.{is_before, IsView};
 ghost use Rattle.feature_overlay.specs.Changed.{kept_at};
 ghost use Rattle.feature_overlay.specs.First.{IsFirst, lesser};
 
@@ -10,27 +10,28 @@ use crate::changes::{Changes, has_changed};
 use feature_values::{Feature, Rid};
 use fes_filter::FeatureView;
 
-fn place_of(feature: &Feature) -> Option<Rid>
+fn id_of(feature: &Feature) -> Option<Rid>
     ensures { result ≡ Some feature.now.id }
 {
     Some(feature.id)
 }
 
-/// The first of them behind a place.
+/// The first of them behind an identifier. The place is the one for a walk of the view.
 pub(crate) fn next_kept<'a, V: FeatureView>(
     view: &'a V,
     changes: &Changes,
     after: Option<Rid>,
+    place: &mut u64,
 ) -> Option<&'a Feature>
     ensures value { IsFirst after (kept_at (V.features view.now) changes.now.entries) (option_copied result) }
-    ensures order { IsInOrder (V.features view.now) }
+    ensures view { IsView (V.schema view.now) (V.features view.now) }
 {
-    let mut place = after;
-    while let Some(feature) = view.next(place) {
+    let mut passed = after;
+    while let Some(feature) = view.walk(passed, place) {
         if !has_changed(changes, feature.id) {
             return Some(feature);
         }
-        place = place_of(feature);
+        passed = id_of(feature);
     }
     None
 }

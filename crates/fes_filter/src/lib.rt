@@ -33,6 +33,7 @@ pub use pattern::LikePart;
 pub use query::{Query, SortKey};
 pub use steps::Steps;
 pub use truths::truth;
+pub use values::property_of;
 pub use view::FeatureView;
 
 #[cfg(test)]

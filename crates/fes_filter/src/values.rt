@@ -7,7 +7,7 @@ ghost use Rattle.fes_filter.specs.Truth.{property_of, value_of, is_missing};
 use crate::expr::Expr;
 use feature_values::{Feature, Value};
 
-/// The value of a property, if the feature has this property.
+/// The value of a property, which is named by its index in the feature type, if the feature has this property.
 pub fn property_of(feature: &Feature, property: u32) -> Option<&Value>
     ensures { option_copied result ≡ property_of feature.now property }
 {

@@ -1,6 +1,7 @@
 -- Where a walk of the features of a type may begin and end.
-use Rattle.std.proofs.Common.{◌≡◌, ℕ, ◌≤◌, ◌-◌, Bool, true, false, cond, ◌&&◌, ◌||◌, ◌==◌, nat_lt, List, [], ◌∷◌, ◌++◌, filter, map, Option, Some, None, refl, sym, ap, ◌∙◌, arith, append-nil, ltb-true, lt-ltb, eqb-true}
+use Rattle.std.proofs.Common.{◌≡◌, ℕ, ◌≤◌, ◌-◌, Bool, true, false, cond, ◌&&◌, ◌||◌, ◌==◌, nat_lt, List, [], ◌∷◌, ◌++◌, filter, map, All, get_or, Option, Some, None, refl, sym, ap, ◌∙◌, arith, append-nil, ltb-true, lt-ltb, eqb-true}
 use Rattle.std.proofs.lemmas.Bool.{false≢true, and_parts, and_left, ne_eqb, eqb-false}
+use Rattle.std.proofs.lemmas.List.Elements.{All-head, All-tail}
 use Rattle.feature_values.specs.declared.feature.Feature.{Feature}
 use Rattle.feature_values.specs.declared.feature.Rid.{Rid}
 use Rattle.fes_filter.specs.declared.query.Query.{Query}
@@ -16,9 +17,13 @@ kept_at true c x l m q is all more = rw (is, more) refl
 kept_at false true x l m q is all more = absurd (false≢true (all refl))
 kept_at false false x l m q is all more = more
 
-pub all_kept : {X : Type 0} (p q : X → Bool) → ((x : X) → q x ≡ true → p x ≡ true) → (xs : List X) → filter q (filter p xs) ≡ filter q xs
-all_kept p q all [] = refl
-all_kept p q all (x ∷ xs) = kept_at (p x) (q x) x (filter p xs) (filter q xs) q refl (all x) (all_kept p q all xs)
+pub all_kept_in : {X : Type 0} (p q : X → Bool) (xs : List X) → All (λ x. q x ≡ true → p x ≡ true) xs → filter q (filter p xs) ≡ filter q xs
+all_kept_in p q [] all = refl
+all_kept_in p q (x ∷ xs) all =
+    kept_at (p x) (q x) x (filter p xs) (filter q xs) q refl (All-head (λ y. q y ≡ true → p y ≡ true) x xs all) (all_kept_in p q xs (All-tail (λ y. q y ≡ true → p y ≡ true) x xs all))
+
+all_kept : {X : Type 0} (p q : X → Bool) → ((x : X) → q x ≡ true → p x ≡ true) → (xs : List X) → filter q (filter p xs) ≡ filter q xs
+all_kept p q all xs = all_kept_in p q xs (λ k d lt. all (get_or xs k d))
 
 none_at : {X : Type 0} (b : Bool) (x : X) (l : List X) (q : X → Bool) → (b ≡ true → q x ≡ false) → filter q l ≡ [] → filter q (cond b (x ∷ l) l) ≡ []
 none_at true x l q none more = rw (none refl) more
@@ -35,7 +40,7 @@ kinds_rise true e q k m less same h = omega (arith, ltb-true k m less)
 kinds_rise false true q k m less same h = omega (arith, eqb-true k m same)
 kinds_rise false false q k m less same h = absurd (false≢true h)
 
-before_kind : (a b : Rid) → is_before a b ≡ true → a.kind ≤ b.kind
+pub before_kind : (a b : Rid) → is_before a b ≡ true → a.kind ≤ b.kind
 before_kind a b h = kinds_rise (nat_lt a.kind b.kind) (a.kind == b.kind) (nat_lt a.number b.number) a.kind b.kind refl refl h
 
 past_at : (kind : Option ℕ) (id : Rid) (f : Feature) (b : Bool) → is_past kind id ≡ true → id.kind ≤ f.id.kind → (is_of_type kind f && b) ≡ false

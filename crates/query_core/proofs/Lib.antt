@@ -1,9 +1,11 @@
 pub mod Asks
 pub mod Begins
+pub mod Counts
 pub mod Found
 pub mod Held
 pub mod Joins
 pub mod Keys
+pub mod Near
 pub mod Once
 pub mod Orders
 pub mod Selects

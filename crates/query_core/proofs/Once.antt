@@ -1,7 +1,9 @@
--- The known identifiers of a list, in order and each once.
-use Rattle.std.proofs.Common.{◌≡◌, ℕ, ◌+◌, ◌<◌, Bool, true, false, cond, ◌||◌, ◌==◌, List, [], ◌∷◌, ◌++◌, length, get_or, take, IsPermutation, Some, None, refl, sym, ap, ◌∙◌, append-nil, eqb-true}
+-- Identifiers, in order and each once: those of a list that are known, and those of two lists.
+use Rattle.std.proofs.Common.{◌≡◌, ℕ, zero, suc, ◌+◌, ◌<◌, ◌≤◌, Bool, true, false, cond, ◌||◌, ◌&&◌, ◌==◌, List, [], ◌∷◌, ◌++◌, length, get_or, take, filter, IsPermutation, Some, None, refl, sym, ap, ◌∙◌, arith, append-nil, eqb-true}
 use Rattle.std.specs.List.{flat_map, list_any, dedup, dedup_from}
 use Rattle.std.specs.List.Sorted.{IsSorted, IsStrictlySortedBy}
+use Rattle.std.specs.declared.cmp.Ordering.TheVariants.{Less}
+use Rattle.std.specs.Ordering.{ordering_reverse, is_lt}
 use Rattle.std.proofs.lemmas.Bool.{and_parts}
 use Rattle.std.proofs.lemmas.List.Kept.{IsStrictlySortedBy-dedup}
 use Rattle.std.proofs.lemmas.Cmp.{nat_eq_equiv}
@@ -40,11 +42,15 @@ known_absent references i d found lt is so_far = rw (known_turn references i d l
 same_flip : (a b : Rid) → is_same a b ≡ is_same b a
 same_flip a b = rw (nat_eq_equiv.symm a.kind b.kind, nat_eq_equiv.symm a.number b.number) refl
 
-known_among : (id : Rid) (references : List IdRef) → is_among (flat_map (λ r. to_list (known r)) references) id ≡ list_any (is_of id) references
-known_among id [] = refl
-known_among id (Known other ∷ references) = rw (same_flip id other) (ap (λ b. is_same other id || b) (known_among id references))
-known_among id (Nobody ∷ references) = known_among id references
-known_among id (Parameter place ∷ references) = known_among id references
+listed_among : (id : Rid) (references : List IdRef) → is_among (flat_map (λ r. to_list (known r)) references) id ≡ list_any (is_of id) references
+listed_among id [] = refl
+listed_among id (Known other ∷ references) = rw (same_flip id other) (ap (λ b. is_same other id || b) (listed_among id references))
+listed_among id (Nobody ∷ references) = listed_among id references
+listed_among id (Parameter place ∷ references) = listed_among id references
+
+pub known_among : (id : Rid) (references : List IdRef) → is_among (known_ids references) id ≡ list_any (is_of id) references
+unfolding known_ids
+known_among id references = listed_among id references
 
 -- ---- each once
 
@@ -70,10 +76,53 @@ alike id a b h =
     let parts = and_parts (a.kind == b.kind) (a.number == b.number) h in
     rw (eqb-true a.kind b.kind parts.0, eqb-true a.number b.number parts.1) refl
 
-pub same_once : (id : Rid) (references : List IdRef) (sorted : List Rid) → IsPermutation (known_ids references) sorted → is_among (dedup is_same sorted) id ≡ list_any (is_of id) references
-unfolding known_ids
-same_once id references sorted moved =
-    once is_same (is_same id) (alike id) sorted ∙ sym (list_any-IsPermutation (is_same id) (flat_map (λ r. to_list (known r)) references) sorted moved) ∙ known_among id references
+any_alike : (others : List Rid) (id x : Rid) → is_same id x ≡ true → is_among others id ≡ is_among others x
+any_alike [] id x same = refl
+any_alike (y ∷ others) id x same = rw (same_flip id y, same_flip x y, alike y id x same, any_alike others id x same) refl
+
+pub same_once : (id : Rid) (ids sorted : List Rid) → IsPermutation ids sorted → is_among (dedup is_same sorted) id ≡ is_among ids id
+same_once id ids sorted moved = once is_same (is_same id) (alike id) sorted ∙ sym (list_any-IsPermutation (is_same id) ids sorted moved)
 
 pub rises_once : (sorted : List Rid) → IsSorted rid_order sorted → IsStrictlySortedBy rid_order (dedup is_same sorted)
 rises_once sorted up = IsStrictlySortedBy-dedup rid_total (λ a b. same_flip a b ∙ same_is b a) sorted up
+
+-- ---- those that are in two lists
+
+in_both_at : (s b o l m : Bool) (x : Rid) (kept : List Rid) (id : Rid) → is_same id x ≡ s → (s ≡ true → o ≡ b) → is_among kept id ≡ (m && o) → is_among (cond b (x ∷ kept) kept) id ≡ ((s || m) && o)
+in_both_at true true o l m x kept id is same more = rw (is, same refl) refl
+in_both_at true false o l m x kept id is same more = more ∙ rw (same refl) (none m)
+  where
+    none : (c : Bool) → (c && false) ≡ false
+    none true = refl
+    none false = refl
+in_both_at false true o l m x kept id is same more = rw is more
+in_both_at false false o l m x kept id is same more = more
+
+pub in_both : (ids others : List Rid) (id : Rid) → is_among (filter (is_among others) ids) id ≡ (is_among ids id && is_among others id)
+in_both [] others id = refl
+in_both (x ∷ ids) others id =
+    in_both_at (is_same id x) (is_among others x) (is_among others id) true (is_among ids id) x (filter (is_among others) ids) id refl (λ same. any_alike others id x same) (in_both ids others id)
+
+and_back : (b c : Bool) → (b && c) ≡ (c && b)
+and_back true true = refl
+and_back true false = refl
+and_back false true = refl
+and_back false false = refl
+
+pub in_both_back : (ids others : List Rid) (id : Rid) → is_among (filter (is_among ids) others) id ≡ (is_among ids id && is_among others id)
+in_both_back ids others id = in_both others ids id ∙ and_back (is_among others id) (is_among ids id)
+
+-- ---- in order
+
+less_back : (a b : Rid) → rid_order a b ≡ Less → is_lt (rid_order b a) ≡ false
+less_back a b h = ap is_lt (rid_total.antisymm b a ∙ ap ordering_reverse h)
+
+-- identifiers that rise are sorted
+pub rises_sorted : (ids : List Rid) → IsStrictlySortedBy rid_order ids → IsSorted rid_order ids
+unfolding IsStrictlySortedBy
+rises_sorted [] rise k d low lt = absurd (omega (arith, lt))
+rises_sorted (a ∷ []) rise k d low lt = absurd (omega (arith, lt))
+rises_sorted (a ∷ b ∷ ids) rise zero d low lt = less_back a b rise.0.0
+rises_sorted (a ∷ b ∷ ids) rise (suc k) d low lt =
+    let next : suc k + 1 ≡ suc (k + 1) = omega arith in
+    rw next (rises_sorted (b ∷ ids) rise.1 k d (omega arith) (omega (arith, lt)))

@@ -3,3 +3,4 @@ pub mod Keyed
 pub mod Paging
 pub mod Selecting
 pub mod Sorting
+pub mod Steps

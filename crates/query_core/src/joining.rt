@@ -1,7 +1,7 @@
 //! What several queries select, as one list in which nothing comes twice.
 
 ghost use Rattle.std.specs.Prelude.{◌≡◌, ◌++◌, IfOk, IsPermutation, filter, not};
-ghost use Rattle.std.specs.List.Sorted.{IsSorted};
+ghost use Rattle.std.specs.List.Sorted.{IsSorted, IsStrictlySortedBy};
 ghost use Rattle.query_core.specs.Selecting.{is_among, joined};
 ghost use Rattle.query_core.specs.Sorting.{rid_order};
 
@@ -28,6 +28,21 @@ fn has(sorted: &[Rid], id: Rid) -> bool
     sorted
         .binary_search_by(|other| rid_order(*other, id))
         .is_ok()
+}
+
+/// Those that are among others, which are in default order.
+pub(crate) fn those_among(alloc: Global, ids: &[Rid], sorted: &[Rid]) -> Mem<Vec<Rid>>
+    requires { IsStrictlySortedBy rid_order sorted.now }
+    ensures { IfOk result (λ v. v.items ≡ filter (is_among sorted.now) ids.now) }
+{
+    let mut found = Vec::new(alloc);
+    for id in ids {
+        if !has(sorted, *id) {
+            continue;
+        }
+        found.push(*id)?;
+    }
+    Ok(found)
 }
 
 /// Some identifiers, and behind them those of `more` that are not among others, which are in default order.

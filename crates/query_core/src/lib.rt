@@ -8,6 +8,7 @@ mod asking;
 mod joining;
 mod keyed;
 mod looking;
+mod nearing;
 mod ordering;
 mod paging;
 mod selecting;

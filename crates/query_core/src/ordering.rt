@@ -9,7 +9,7 @@ ghost use Rattle.query_core.specs.Keyed.{by_way, value_behind};
 ghost use Rattle.query_core.specs.Sorting.{or_null, kind_place, value_order, key_order, rid_order, feature_order};
 
 use feature_values::{Feature, Rid, Value};
-use fes_filter::SortKey;
+use fes_filter::{SortKey, property_of};
 use geom_core::Geometry;
 use std::cmp::Ordering;
 
@@ -34,13 +34,6 @@ fn borrowed(value: Option<&Value>) -> ValueRef<'_>
         Some(Value::Truth(truth)) => ValueRef::Truth(*truth),
         Some(Value::Shape(shape)) => ValueRef::Shape(shape),
     }
-}
-
-/// The value of a property, if the feature has this property.
-fn property_of(feature: &Feature, property: u32) -> Option<&Value>
-    ensures { option_copied result ≡ property_of feature.now property }
-{
-    feature.items().get(property as usize)
 }
 
 /// The value of a property as it is compared.

@@ -3,9 +3,11 @@
 use super::*;
 use feature_values::{Feature, Rid, Value};
 use fes_filter::SortKey;
+use geom_core::{Geometry, Line, Pos};
 use std::alloc::Global;
-use wfs_ends::{List, Mem, Text};
+use wfs_ends::{List, Mem, Shared, Text};
 
+mod boxes;
 mod selects;
 mod sorts;
 mod views;
@@ -13,18 +15,23 @@ mod views;
 /// The number of a type, and a feature's number within it.
 type Place = (u32, u64);
 
-// The properties of each feature: a text, and a whole number that may be null.
+// The properties of each feature: a text, and a whole number and a course that may be null.
 const LABEL: u32 = 0;
 
 const SIZE: u32 = 1;
 
-static FEATURES: [(Place, &str, Option<i64>); 6] = [
-    ((0, 1), "B", None),
-    ((0, 2), "A", Some(2)),
-    ((0, 3), "A", None),
-    ((0, 4), "b", Some(1)),
-    ((1, 1), "A", None),
-    ((2, 3), "C", None),
+const COURSE: u32 = 2;
+
+/// The coordinates of two positions.
+type Ends = (i64, i64, i64, i64);
+
+static FEATURES: [(Place, &str, Option<i64>, Option<Ends>); 6] = [
+    ((0, 1), "B", None, Some((0, 0, 0, 4))),
+    ((0, 2), "A", Some(2), Some((0, 0, 8, 8))),
+    ((0, 3), "A", None, None),
+    ((0, 4), "b", Some(1), Some((2, 2, 9, 2))),
+    ((1, 1), "A", None, Some((6, 1, 6, 9))),
+    ((2, 3), "C", None, Some((7, 0, 9, 0))),
 ];
 
 fn ids(alloc: Global, wanted: &[Place]) -> Mem<List<Rid>> {
@@ -59,19 +66,48 @@ fn size_of(size: Option<i64>) -> Value {
     }
 }
 
-fn feature(alloc: Global, place: Place, label: &str, size: Option<i64>) -> Mem<Feature> {
+fn positions(ends: Ends) -> Option<(Pos, Pos)> {
+    let (x, y, u, v) = ends;
+    Some((Pos::new(x, y).ok()?, Pos::new(u, v).ok()?))
+}
+
+/// A line between two positions; where there is none, a null.
+fn course_of(alloc: Global, ends: Option<Ends>) -> Mem<Value> {
+    let Some(ends) = ends else {
+        return Ok(Value::Null);
+    };
+    let Some((first, last)) = positions(ends) else {
+        return Ok(Value::Null);
+    };
+    let mut course = Vec::new(alloc);
+    course.push(first)?;
+    course.push(last)?;
+    match Line::new(course) {
+        Ok(line) => Ok(Value::Shape(Geometry::Along(Shared::new(alloc, line)?))),
+        Err(_) => Ok(Value::Null),
+    }
+}
+
+fn feature(
+    alloc: Global,
+    place: Place,
+    label: &str,
+    size: Option<i64>,
+    ends: Option<Ends>,
+) -> Mem<Feature> {
     let (kind, number) = place;
     let mut values = Vec::new(alloc);
     values.push(words(alloc, label)?)?;
     values.push(size_of(size))?;
+    values.push(course_of(alloc, ends)?)?;
     Feature::of(alloc, Rid { kind, number }, values)
 }
 
 fn features(alloc: Global) -> Mem<Vec<Feature>> {
     let mut all = Vec::new(alloc);
     for row in FEATURES.iter() {
-        let (place, label, size) = *row;
-        all.push(feature(alloc, place, label, size)?)?;
+        let (place, label, size, ends) = *row;
+        all.push(feature(alloc, place, label, size, ends)?)?;
     }
     Ok(all)
 }

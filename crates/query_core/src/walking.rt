@@ -1,9 +1,9 @@
 //! The plain way to select: all features of a type, one after the other.
 
-ghost use Rattle.std.specs.Prelude.{◌≡◌, IfOk, OnOk, Some, map, filter};
+ghost use Rattle.std.specs.Prelude.{◌≡◌, ◌+◌, ◌≤◌, IfOk, OnOk, Some, map, filter, length, if◌then◌else◌};
 ghost use Rattle.fes_filter.specs.View.{IsInOrder};
 ghost use Rattle.query_core.specs.Finding.{start_of, is_past};
-ghost use Rattle.query_core.specs.Selecting.{is_selected};
+ghost use Rattle.query_core.specs.Selecting.{is_of_type, is_selected};
 
 use feature_values::{Feature, Rid};
 use fes_filter::{FeatureView, Query, Steps, truth};
@@ -19,7 +19,8 @@ pub(crate) fn is_selected<L: Ledger>(
     feature: &Feature,
     steps: &mut Steps<L>,
 ) -> Mem<bool>
-    ensures { IfOk result (λ b. b ≡ is_selected query.now feature.now) }
+    ensures value { IfOk result (λ b. b ≡ is_selected query.now feature.now) }
+    ensures steps { steps.new ≤ steps.old + (if is_of_type query.now.kind feature.now then 1 else 0) }
 {
     if let Some(kind) = query.kind {
         if feature.id.kind != kind {
@@ -72,10 +73,12 @@ pub(crate) fn walk<'a, V: FeatureView, L: Ledger>(
 ) -> Mem<Vec<&'a Feature>>
     ensures value { IfOk result (λ fs. map (λ f. f.now) fs.items ≡ filter (is_selected query.now) (V.features view.now)) }
     ensures order { OnOk result (IsInOrder (V.features view.now)) }
+    ensures steps { steps.new ≤ steps.old + length (filter (is_of_type query.now.kind) (V.features view.now)) }
 {
     let mut found = Vec::new(alloc);
     let mut after = start_of(query.kind);
-    while let Some(feature) = view.next(after) {
+    let mut place = 0;
+    while let Some(feature) = view.walk(after, &mut place) {
         if is_past(query.kind, feature.id) {
             return Ok(found);
         }

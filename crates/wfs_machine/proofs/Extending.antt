@@ -1,14 +1,15 @@
 -- Rows behind which more stands, and what a transaction leaves.
 use Rattle.std.proofs.Common.{◌≡◌, ◌≢◌, ℕ, zero, suc, ◌+◌, ◌<◌, ◌≤◌, ◌⊎◌, inl, inr, List, [], ◌∷◌, ◌++◌, length, get_or, take, map, set, refl, sym, ap, ◌∙◌, arith, append_assoc, length-set}
-use Rattle.std.specs.Prelude.{All, Option}
+use Rattle.std.specs.Prelude.{All, Option, Ok}
 use Rattle.std.specs.List.{fold}
 use Rattle.std.proofs.lemmas.List.{append-nil, get_or-set_same, get_or-set_other, take_at, ext_get_or}
 use Rattle.std.proofs.lemmas.List.Quantifiers.{all_pairs_push}
 use Rattle.feature_values.specs.declared.feature.Feature.{Feature}
 use Rattle.feature_values.specs.declared.schema.Schema.{Schema}
+use Rattle.feature_values.specs.Fits.{feature_fits}
 use Rattle.wfs_model.specs.declared.action.Action.{Action}
 use Rattle.wfs_model.specs.declared.action.Action.TheVariants.{Insert, Update, Replace, Delete}
-use Rattle.wfs_machine.specs.Kept.{AreRows, IsRow, Extends, IsActionWithin}
+use Rattle.wfs_machine.specs.Kept.{AreRows, IsRow, Extends, IsActionWithin, AreFitting, IsActionFitting}
 use Rattle.wfs_machine.specs.Step.{Acting, inserted, acted, IsActionOfTypes}
 use Rattle.wfs_machine.proofs.Rows.{all_nil, all_cons, all_head, all_tail, all_append, all_weaker}
 
@@ -112,3 +113,44 @@ of_types schema types (Delete kind filter) e h = absurd h
 
 pub all_of_types : (schema : Schema) (types : ℕ) (actions : List Action) → types ≡ length schema.types → All (IsActionOfTypes schema) actions → All (IsActionWithin types) actions
 all_of_types schema types actions e h = all_weaker (IsActionOfTypes schema) (IsActionWithin types) actions (λ action its. of_types schema types action e its) h
+
+-- ---- features that fit
+
+module _ (schema : Schema) where
+  abbrev Fits : Feature → Type 0
+  Fits f = feature_fits schema f ≡ Ok tt
+
+  fits_at : (rows : List (List Feature)) (kind : ℕ) (f : Feature) (k : ℕ) → AreFitting schema rows → kind < length rows → Fits f → (k ≡ kind) ⊎ (k ≢ kind) → All Fits (get_or (set rows kind (get_or rows kind [] ++ f ∷ [])) k [])
+  fits_at rows kind f k h lt fits (inl e) =
+      rw (e, get_or-set_same rows kind (get_or rows kind [] ++ f ∷ []) [] lt) (all_append Fits (get_or rows kind []) (f ∷ []) (h kind) (all_cons Fits f [] fits (all_nil Fits)))
+  fits_at rows kind f k h lt fits (inr n) = rw (get_or-set_other rows kind k (get_or rows kind [] ++ f ∷ []) [] n) (h k)
+
+  -- a feature fits by its type and its values
+  numbered_fits : (f : Feature) (number : ℕ) → Fits f → Fits (record { id = record { kind = f.id.kind; number = number }; values = f.values })
+  unfolding feature_fits
+  numbered_fits f number fits = fits
+
+  inserted_fits : (types : ℕ) (handle : Option (List ℕ)) (at : Acting) (f : Feature) → AreRows types at.features at.counters → f.id.kind < types → Fits f → AreFitting schema at.features → AreFitting schema (inserted handle at f).features
+  unfolding inserted
+  inserted_fits types handle at f h lt fits fitting = λ k.
+      fits_at at.features f.id.kind (record { id = record { kind = f.id.kind; number = get_or at.counters f.id.kind 0 + 1 }; values = f.values }) k fitting (omega (arith, lt, h.all_rows)) (numbered_fits f (get_or at.counters f.id.kind 0 + 1) fits) (apart_or_not k f.id.kind)
+
+  inserted_all_fit : (types : ℕ) (handle : Option (List ℕ)) (at : Acting) (fs : List Feature) → AreRows types at.features at.counters → All (Within types) fs → All Fits fs → AreFitting schema at.features → AreFitting schema (fold (inserted handle) at fs).features
+  inserted_all_fit types handle at [] h k fits fitting = fitting
+  inserted_all_fit types handle at (f ∷ fs) h k fits fitting =
+      let within = all_head (Within types) f fs k in
+      inserted_all_fit types handle (inserted handle at f) fs (inserted_keeps types handle at f h within) (all_tail (Within types) f fs k) (all_tail Fits f fs fits) (inserted_fits types handle at f h within (all_head Fits f fs fits) fitting)
+
+  acted_fits : (types : ℕ) (at : Acting) (action : Action) → AreRows types at.features at.counters → IsActionWithin types action → IsActionFitting schema action → AreFitting schema at.features → AreFitting schema (acted at action).features
+  unfolding IsActionFitting
+  acted_fits types at (Insert handle features) h k fits fitting = inserted_all_fit types handle at features h k fits fitting
+  acted_fits types at (Update handle kind sets filter) h k fits fitting = absurd k
+  acted_fits types at (Replace handle feature filter) h k fits fitting = absurd k
+  acted_fits types at (Delete kind filter) h k fits fitting = absurd k
+
+  pub all_acted_fit : (types : ℕ) (at : Acting) (actions : List Action) → AreRows types at.features at.counters → All (IsActionWithin types) actions → All (IsActionFitting schema) actions → AreFitting schema at.features → AreFitting schema (fold acted at actions).features
+  all_acted_fit types at [] h k fits fitting = fitting
+  all_acted_fit types at (action ∷ actions) h k fits fitting =
+      let within = all_head (IsActionWithin types) action actions k in
+      all_acted_fit types (acted at action) actions (acted_keeps types at action h within) (all_tail (IsActionWithin types) action actions k) (all_tail (IsActionFitting schema) action actions fits)
+      (acted_fits types at action h within (all_head (IsActionFitting schema) action actions fits) fitting)

@@ -1,6 +1,6 @@
 -- Rows of features, one behind the other: what is found in them stands in the row of its type.
 use Rattle.std.proofs.Common.{◌≡◌, ℕ, zero, suc, ◌+◌, ◌-◌, ◌<◌, ◌≤◌, Bool, true, false, List, [], ◌∷◌, ◌++◌, length, get_or, drop, map, Option, Some, None, refl, sym, ap, ◌∙◌, arith}
-use Rattle.std.specs.Prelude.{All, Contains, IsTrue, nat_le, not, flat_map, slice_get}
+use Rattle.std.specs.Prelude.{All, Contains, IsTrue, nat_le, not, flat_map, slice_get, Ok}
 use Rattle.std.specs.List.{AllPairs, AllWithin, find}
 use Rattle.std.specs.List.Sorted.{IsPartitionedBy}
 use Rattle.std.specs.Option.{option_or}
@@ -10,9 +10,11 @@ use Rattle.std.proofs.lemmas.Option.{slice_get_read}
 use Rattle.std.proofs.lemmas.Bool.Decides.{nat_tests}
 use Rattle.feature_values.specs.declared.feature.Feature.{Feature}
 use Rattle.feature_values.specs.declared.feature.Rid.{Rid}
+use Rattle.feature_values.specs.declared.schema.Schema.{Schema}
+use Rattle.feature_values.specs.Fits.{feature_fits}
 use Rattle.geom_core.specs.Plane.{Bounds}
-use Rattle.fes_filter.specs.View.{is_same, is_before, IsInOrder, IsOnce, feature_at, next_after, is_near, HasAllNear}
-use Rattle.wfs_machine.specs.Kept.{AreRows, Rises, AreOfKind}
+use Rattle.fes_filter.specs.View.{is_same, is_before, IsInOrder, IsView, IsOnce, feature_at, next_after, is_near, HasAllNear}
+use Rattle.wfs_machine.specs.Kept.{AreRows, AreKept, Rises, AreOfKind}
 
 -- ---- lists
 
@@ -284,3 +286,15 @@ all_apart f (g ∷ gs) h = all_cons (λ other. IsTrue (not (is_same f.id other))
 pub each_once : (row : List Feature) → Rises row → IsOnce (map (λ f. f.id) row)
 each_once [] r = tt
 each_once (f ∷ fs) r = (all_apart f fs (pairs_head Lower f fs r), each_once fs (pairs_tail Lower f fs r))
+
+-- ---- a machine's features are those of a view
+
+all_flat : (P : Feature → Type 0) (rows : List (List Feature)) → ((k : ℕ) → All P (get_or rows k [])) → All P (flat rows)
+all_flat P [] h = all_nil P
+all_flat P (row ∷ rows) h = all_append P row (flat rows) (h 0) (all_flat P rows (λ k. h (suc k)))
+
+pub is_view : (schema : Schema) (rows : List (List Feature)) (counters : List ℕ) → AreKept schema rows counters → IsView schema (flat rows)
+is_view schema rows counters h = record {
+  order = are_in_order (length schema.types) rows counters h.are_rows;
+  fitting = all_flat (λ f. feature_fits schema f ≡ Ok tt) rows h.fitting;
+}

@@ -1,7 +1,9 @@
 -- How the plain machine keeps its features: a row for each type, in which numbers rise and none is above the type's counter.
-use Rattle.std.specs.Prelude.{◌≡◌, ℕ, ◌<◌, ◌≤◌, List, [], ◌++◌, length, All, get_or}
+use Rattle.std.specs.Prelude.{◌≡◌, ℕ, ◌<◌, ◌≤◌, List, [], ◌++◌, length, All, get_or, Ok, ⊤}
 use Rattle.std.specs.List.{AllPairs}
 use Rattle.feature_values.specs.declared.feature.Feature.{Feature}
+use Rattle.feature_values.specs.declared.schema.Schema.{Schema}
+use Rattle.feature_values.specs.Fits.{feature_fits}
 use Rattle.wfs_model.specs.declared.reply.Made.{Made}
 use Rattle.wfs_model.specs.declared.action.Action.{Action}
 use Rattle.wfs_model.specs.declared.action.Action.TheVariants.{Insert}
@@ -32,6 +34,15 @@ pub record AreRows (types : ℕ) (rows : List (List Feature)) (counters : List �
   pub all_counters : length counters ≡ types
   pub each : (k : ℕ) → IsRow k (get_or counters k 0) (get_or rows k [])
 
+-- a schema allows each feature of the rows
+abbrev pub AreFitting : Schema → List (List Feature) → Type 0
+AreFitting schema rows = (k : ℕ) → All (λ f. feature_fits schema f ≡ Ok tt) (get_or rows k [])
+
+-- the rows of a machine that serves a schema, and its counters
+pub record AreKept (schema : Schema) (rows : List (List Feature)) (counters : List ℕ) : Type 0 where
+  pub are_rows : AreRows (length schema.types) rows counters
+  pub fitting : AreFitting schema rows
+
 -- the rows of all types, in which some features more may stand behind those of earlier ones
 pub record Extends (old new : List (List Feature)) : Type 0 where
   pub as_many : length new ≡ length old
@@ -49,3 +60,8 @@ page_at p = record { start = p.0; count = p.1 }
 abbrev pub IsActionWithin : ℕ → Action → Type 0
 IsActionWithin types (Insert handle features) = All (λ f. f.id.kind < types) features
 IsActionWithin types action = ⊥
+
+-- a schema allows each feature that comes in
+unfoldable pub IsActionFitting : Schema → Action → Type 0
+IsActionFitting schema (Insert handle features) = All (λ f. feature_fits schema f ≡ Ok tt) features
+IsActionFitting schema action = ⊤

@@ -4,6 +4,7 @@
 
 mod acting;
 mod finding;
+mod fitting;
 mod paging;
 mod plain;
 mod reading;

@@ -3,6 +3,7 @@
 ghost use Rattle.std.specs.Prelude.{◌≡◌, IfOk, OnErr};
 
 use crate::acting::transact;
+use crate::fitting::do_actions_fit;
 use crate::reading::{all_selected, presented};
 use crate::row::Row;
 use feature_values::{Feature, Schema};
@@ -28,23 +29,22 @@ pub struct Plain {
 }
 
 impl Model for Plain {
-    ghost use Rattle.std.specs.Prelude.{length};
     ghost use Rattle.wfs_machine.specs.State.{State, Machine};
-    ghost use Rattle.wfs_machine.specs.Kept.{AreRows};
+    ghost use Rattle.wfs_machine.specs.Kept.{AreKept};
 
     ghost Value = { Machine };
 
     ghost view = { λ m. record { schema = m.schema; state = record { features = m.rows.items; counters = m.counters.items; opening = 1; last = m.last } } };
 
-    ghost invariant = { λ m. AreRows (length m.schema.types) m.rows.items m.counters.items };
+    ghost invariant = { λ m. AreKept m.schema m.rows.items m.counters.items };
 }
 
 impl Plain {
     ghost use Rattle.wfs_machine.specs.State.{opened, moment_in};
     ghost use Rattle.wfs_model.specs.Changing.{IsChange};
     ghost use Rattle.wfs_machine.specs.Step.{step, read, IsOfTypes};
-    ghost use Rattle.wfs_machine.specs.Kept.{IsRow, AreRows};
-    ghost use Rattle.std.specs.Prelude.{length, get_or, []};
+    ghost use Rattle.wfs_machine.specs.Kept.{IsRow, AreKept};
+    ghost use Rattle.std.specs.Prelude.{get_or, []};
 
     /// The machine of the first opening, with no features.
     pub fn new(alloc: Global, schema: Schema) -> Mem<Plain>
@@ -77,7 +77,7 @@ impl Plain {
     // The features, by type.
     pub(crate) fn rows(&self) -> &[Row]
         ensures rows { result.now ≡ self.now.state.features }
-        ensures kept { AreRows (length self.now.schema.types) self.now.state.features self.now.state.counters }
+        ensures kept { AreKept self.now.schema self.now.state.features self.now.state.counters }
     {
         self.rows.as_slice()
     }
@@ -86,7 +86,7 @@ impl Plain {
     pub(crate) fn row(&self, kind: u32) -> &[Feature]
         ensures row { result.now ≡ get_or self.now.state.features kind [] }
         ensures kept { IsRow kind (get_or self.now.state.counters kind 0) result.now }
-        ensures all { AreRows (length self.now.schema.types) self.now.state.features self.now.state.counters }
+        ensures all { AreKept self.now.schema self.now.state.features self.now.state.counters }
     {
         let kind = kind as usize;
         if kind >= self.rows.len() {
@@ -96,7 +96,7 @@ impl Plain {
     }
 
     /// Takes a step: carries the entry's request out at the entry's moment, and answers it. Where
-    /// memory runs out, the machine is as before.
+    /// memory runs out, the machine is as before. A feature that does not fit the schema is answered as a want of memory.
     #[tactic(auto, unfolding(crate::specs::Step::step))]
     pub fn step(&mut self, entry: &Entry) -> Mem<Reply>
         requires types { IsOfTypes self.old.schema entry.now.request }
@@ -108,6 +108,9 @@ impl Plain {
         let Request::Transact { actions, .. } = &entry.request else {
             return Err(OutOfMemory);
         };
+        if !do_actions_fit(&self.schema, actions.items()) {
+            return Err(OutOfMemory);
+        }
         let moment = self.moment_of(entry.moment);
         let alloc = self.alloc;
         let made = transact(

@@ -11,11 +11,14 @@ use std::alloc::Global;
 use wfs_ends::{List, Mem};
 
 impl FeatureView for Plain {
+    ghost use Rattle.std.specs.Prelude.{length, get_or, []};
     ghost use Rattle.wfs_machine.specs.State.{all_features};
 
     ghost features = { λ machine. all_features machine.state };
 
     ghost schema = { λ machine. machine.schema };
+
+    ghost most_near = { λ machine kind _. length (get_or machine.state.features kind []) };
 
     fn get(&self, id: Rid) -> Option<&Feature> {
         feature_in(self.row(id.kind), id)

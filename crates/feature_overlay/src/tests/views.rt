@@ -1,32 +1,36 @@
 //! A view of a few features, each of which has a mark and stands at the origin.
 
-ghost use Rattle.std.specs.Prelude.{◌≡◌, IsTrue, IfOk, All, map};
+ghost use Rattle.std.specs.Prelude.{◌≡◌, IsTrue, IfOk, All, Ok, map};
 ghost use Rattle.std.specs.List.{find};
 ghost use Rattle.std.specs.Option.{option_copied};
-ghost use Rattle.fes_filter.specs.View.{is_before, is_same, IsInOrder};
-ghost use Rattle.feature_overlay.specs.InOrder.{in_order_prop};
+ghost use Rattle.feature_values.specs.Fits.{feature_fits};
+ghost use Rattle.fes_filter.specs.View.{is_before, is_same, IsInOrder, IsView};
+ghost use Rattle.feature_overlay.specs.Views.{view_prop};
 
 use super::Mark;
 use crate::walking::is_before;
-use feature_values::{Feature, Rid, Value};
+use feature_values::{Feature, FeatureType, Property, Rid, Schema, Value, ValueKind, fits};
 use fes_filter::FeatureView;
 use geom_core::{Box2, Geometry, Pos};
 use std::alloc::Global;
-use wfs_ends::{List, Mem, OutOfMemory};
+use wfs_ends::{List, Mem, OutOfMemory, Text};
 
-/// A few features in order.
+/// A few features in order, which a schema allows.
 #[derive(Drop)]
 pub struct SampleView {
+    pub schema: Schema,
     features: List<Feature>,
-    ghost in_order: { IsInOrder features } by { in_order_prop features },
+    ghost is_view: { IsView schema features } by { view_prop schema features },
 }
 
 impl FeatureView for SampleView {
-    ghost use Rattle.std.specs.Prelude.{[]};
+    ghost use Rattle.std.specs.Prelude.{length};
 
     ghost features = { λ view. view.features };
 
-    ghost schema = { λ _. record { title = []; address = []; space = []; prefix = []; srs = []; types = [] } };
+    ghost schema = { λ view. view.schema };
+
+    ghost most_near = { λ view _ _. length view.features };
 
     fn get(&self, id: Rid) -> Option<&Feature> {
         feature_at(self.features.items(), id)
@@ -105,16 +109,68 @@ pub fn marked(alloc: Global, of: Mark) -> Mem<Feature> {
     Feature::of(alloc, Rid { kind, number }, values)
 }
 
-/// The features; where they are not in order, as if there were no memory.
+fn do_all_fit(schema: &Schema, features: &[Feature]) -> bool
+    ensures { IsTrue result → All (λ f. feature_fits schema.now f ≡ Ok tt) features.now }
+{
+    for feature in features {
+        let Ok(()) = fits(schema, feature) else {
+            return false;
+        };
+    }
+    true
+}
+
+fn property(alloc: Global, name: &str, kind: ValueKind) -> Mem<Property> {
+    Ok(Property {
+        name: Text::of(alloc, name)?,
+        kind,
+        required: true,
+        max: 0,
+    })
+}
+
+/// A type of features that have a mark and a place.
+fn marks(alloc: Global, name: &str) -> Mem<FeatureType> {
+    let mut properties = Vec::new(alloc);
+    properties.push(property(alloc, "mark", ValueKind::Whole)?)?;
+    properties.push(property(alloc, "at", ValueKind::Point)?)?;
+    Ok(FeatureType {
+        name: Text::of(alloc, name)?,
+        properties: List::of(properties),
+    })
+}
+
+fn schema(alloc: Global) -> Mem<Schema> {
+    let mut types = Vec::new(alloc);
+    for name in ["First", "Second", "Third", "Fourth"] {
+        types.push(marks(alloc, name)?)?;
+    }
+    Ok(Schema {
+        title: Text::of(alloc, "Marks")?,
+        address: Text::of(alloc, "http://localhost/wfs")?,
+        space: Text::of(alloc, "urn:marks")?,
+        prefix: Text::of(alloc, "m")?,
+        srs: List::of(Vec::new(alloc)),
+        types: List::of(types),
+    })
+}
+
+/// The view of these features; where they are not in order or do not fit, as if there were no memory.
+fn view_of(schema: Schema, features: Vec<Feature>) -> Mem<SampleView> {
+    if !are_in_order(&features) || !do_all_fit(&schema, &features) {
+        return Err(OutOfMemory);
+    }
+    Ok(SampleView {
+        schema,
+        features: List::of(features),
+    })
+}
+
 pub fn sample(alloc: Global, marks: &[Mark]) -> Mem<SampleView> {
     let mut features = Vec::new(alloc);
     for mark in marks {
         features.push(marked(alloc, *mark)?)?;
     }
-    if !are_in_order(&features) {
-        return Err(OutOfMemory);
-    }
-    Ok(SampleView {
-        features: List::of(features),
-    })
+    let schema = schema(alloc)?;
+    view_of(schema, features)
 }

@@ -37,7 +37,7 @@ fn is_selected(alloc: Global, view: &SampleView, query: &Query, wanted: &[Place]
 }
 
 /// Whether a query without keys selects these.
-fn selects(
+pub fn selects(
     alloc: Global,
     view: &SampleView,
     kind: Option<u32>,
@@ -90,7 +90,7 @@ fn equals(property: u32, value: Value) -> Filter {
     }
 }
 
-fn of_label(alloc: Global, label: &str) -> Mem<Filter> {
+pub fn of_label(alloc: Global, label: &str) -> Mem<Filter> {
     Ok(equals(LABEL, words(alloc, label)?))
 }
 
@@ -99,7 +99,7 @@ fn not(alloc: Global, filter: Filter) -> Mem<Filter> {
 }
 
 /// Some identifiers, and among them nobody's.
-fn listed(alloc: Global, places: &[Place]) -> Mem<Filter> {
+pub fn listed(alloc: Global, places: &[Place]) -> Mem<Filter> {
     let mut all = Vec::new(alloc);
     all.push(IdRef::Nobody)?;
     for place in places {
@@ -109,7 +109,7 @@ fn listed(alloc: Global, places: &[Place]) -> Mem<Filter> {
     Ok(Filter::Ids(List::of(all)))
 }
 
-fn pair(alloc: Global, first: Filter, second: Filter) -> Mem<List<Filter>> {
+pub fn pair(alloc: Global, first: Filter, second: Filter) -> Mem<List<Filter>> {
     let mut parts = Vec::new(alloc);
     parts.push(first)?;
     parts.push(second)?;

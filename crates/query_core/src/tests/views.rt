@@ -1,19 +1,20 @@
 //! A view of the features.
 
-ghost use Rattle.std.specs.Prelude.{◌≡◌, IsTrue, All};
+ghost use Rattle.std.specs.Prelude.{◌≡◌, IfOk, IsTrue, All, Ok, map};
 ghost use Rattle.std.specs.List.{find};
 ghost use Rattle.std.specs.Option.{option_copied};
+ghost use Rattle.feature_values.specs.Fits.{feature_fits};
 ghost use Rattle.fes_filter.specs.View.{is_before, is_same, IsInOrder};
 
 use super::features;
-use feature_values::{Feature, Rid, Schema};
+use feature_values::{Feature, FeatureType, Property, Rid, Schema, ValueKind, fits};
 use fes_filter::FeatureView;
 use geom_core::Box2;
 use std::alloc::Global;
 use std::marker::Model;
 use wfs_ends::{List, Mem, OutOfMemory, Text};
 
-/// A few features in order.
+/// A few features in order, which a schema allows.
 #[derive(Drop)]
 pub struct SampleView {
     features: List<Feature>,
@@ -24,19 +25,23 @@ impl Model for SampleView {
     ghost use Rattle.std.specs.Prelude.{List};
     ghost use Rattle.feature_values.specs.declared.feature.Feature.{Feature};
     ghost use Rattle.feature_values.specs.declared.schema.Schema.{Schema};
-    ghost use Rattle.fes_filter.specs.View.{IsInOrder};
+    ghost use Rattle.fes_filter.specs.View.{IsView};
 
     ghost Value = { List Feature × Schema };
 
     ghost view = { λ s. (s.features, s.schema) };
 
-    ghost invariant = { λ s. IsInOrder s.features };
+    ghost invariant = { λ s. IsView s.schema s.features };
 }
 
 impl FeatureView for SampleView {
+    ghost use Rattle.std.specs.Prelude.{length};
+
     ghost features = { λ s. s.0 };
 
     ghost schema = { λ s. s.1 };
+
+    ghost most_near = { λ s _ _. length s.0 };
 
     fn get(&self, id: Rid) -> Option<&Feature> {
         feature_at(self.features.items(), id)
@@ -49,10 +54,20 @@ impl FeatureView for SampleView {
         }
     }
 
-    // No query asks for it yet.
-    fn near(&self, _alloc: Global, _kind: u32, _area: &Box2) -> Mem<List<Rid>> {
-        Err(OutOfMemory)
+    // All features are given, of whatever type, near or not.
+    fn near(&self, alloc: Global, _kind: u32, _area: &Box2) -> Mem<List<Rid>> {
+        ids_of(alloc, self.features.items())
     }
+}
+
+fn ids_of(alloc: Global, features: &[Feature]) -> Mem<List<Rid>>
+    ensures { IfOk result (λ ids. ids ≡ map (λ f. f.id) features.now) }
+{
+    let mut ids = Vec::new(alloc);
+    for feature in features {
+        ids.push(feature.id)?;
+    }
+    Ok(List::of(ids))
 }
 
 fn is_same(a: Rid, b: Rid) -> bool
@@ -99,26 +114,68 @@ fn are_in_order(features: &[Feature]) -> bool
     }
 }
 
+fn do_all_fit(schema: &Schema, features: &[Feature]) -> bool
+    ensures { IsTrue result → All (λ f. feature_fits schema.now f ≡ Ok tt) features.now }
+{
+    for feature in features {
+        let Ok(()) = fits(schema, feature) else {
+            return false;
+        };
+    }
+    true
+}
+
+static PROPERTIES: [(&str, ValueKind); 3] = [
+    ("label", ValueKind::Words),
+    ("size", ValueKind::Whole),
+    ("course", ValueKind::Line),
+];
+
+fn feature_type(alloc: Global, name: &str) -> Mem<FeatureType> {
+    let mut properties = Vec::new(alloc);
+    for row in PROPERTIES.iter() {
+        let (name, kind) = *row;
+        properties.push(Property {
+            name: Text::of(alloc, name)?,
+            kind,
+            required: false,
+            max: 1,
+        })?;
+    }
+    Ok(FeatureType {
+        name: Text::of(alloc, name)?,
+        properties: List::of(properties),
+    })
+}
+
 fn schema(alloc: Global) -> Mem<Schema> {
+    let mut types = Vec::new(alloc);
+    for name in ["Mark", "Field", "Way"] {
+        types.push(feature_type(alloc, name)?)?;
+    }
     Ok(Schema {
         title: Text::of(alloc, "Marks")?,
         address: Text::of(alloc, "http://localhost/wfs")?,
         space: Text::of(alloc, "urn:marks")?,
         prefix: Text::of(alloc, "m")?,
         srs: List::of(Vec::new(alloc)),
-        types: List::of(Vec::new(alloc)),
+        types: List::of(types),
     })
 }
 
-/// The features; where they are not in order, as if there were no memory.
-pub fn sample(alloc: Global) -> Mem<SampleView> {
-    let features = features(alloc)?;
-    if !are_in_order(&features) {
+fn view_of(schema: Schema, features: Vec<Feature>) -> Mem<SampleView> {
+    if !are_in_order(&features) || !do_all_fit(&schema, &features) {
         return Err(OutOfMemory);
     }
-    let schema = schema(alloc)?;
     Ok(SampleView {
         features: List::of(features),
         schema,
     })
+}
+
+/// The features; where they are not in order or do not fit, as if there were no memory.
+pub fn sample(alloc: Global) -> Mem<SampleView> {
+    let features = features(alloc)?;
+    let schema = schema(alloc)?;
+    view_of(schema, features)
 }

@@ -6,8 +6,8 @@ loop-id-init g c = rw c.in_ok-features.ensures.items (held_none _)
 
 pub loop-id-preserved-in_default : goal.loop-id-preserved-in_default
 loop-id-preserved-in_default g c =
-    held_absent _ c.args.ids.now c.loop-id.id-index _ _ c.loop-id-test.true c.in_default.ensures c.loop-id.invariant
+    held_absent _ c.args.ids.now c.loop-id.id-index _ _ c.loop-id-test.true c.in_default.ensures.value c.loop-id.invariant
 
 pub loop-id-preserved : goal.loop-id-preserved
 loop-id-preserved g c =
-    rw c.in_ok-push.ensures.items (held_more (λ f. f.now) _ c.args.ids.now c.loop-id.id-index _ c.loop-id.features.items c.in-Some.feature c.loop-id-test.true c.in-Some.ensures c.loop-id.invariant)
+    rw c.in_ok-push.ensures.items (held_more (λ f. f.now) _ c.args.ids.now c.loop-id.id-index _ c.loop-id.features.items c.in-Some.feature c.loop-id-test.true c.in-Some.ensures.value c.loop-id.invariant)

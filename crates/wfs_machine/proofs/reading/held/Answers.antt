@@ -10,4 +10,4 @@ loop-id-init c = c.in_ok-found.ensures.items
 
 pub loop-id-preserved : goal.loop-id-preserved
 loop-id-preserved c =
-    c.in_ok-add_copy.ensures ∙ rw (c.get.ensures, c.loop-id.invariant) (sym (one_more_held (all_features c.args.machine.now.state) c.args.ids.now c.loop-id.id-index _ c.loop-id-test.true))
+    c.in_ok-add_copy.ensures ∙ rw (c.get.ensures.value, c.loop-id.invariant) (sym (one_more_held (all_features c.args.machine.now.state) c.args.ids.now c.loop-id.id-index _ c.loop-id-test.true))

@@ -12,4 +12,4 @@ pub loop-one-preserved : goal.loop-one-preserved
 loop-one-preserved g c =
     let more = one_query_more (all_features c.args.machine.now.state) c.args.asked.now c.loop-one.one-index c.one-item.result c.loop-one-test.true c.one-item.is in
     let more' = rw c.in-Plain.is at more in
-    c.in_ok-ids.ensures ∙ rw (c.in_ok-more.ensures, c.loop-one.invariant) (sym more')
+    c.in_ok-ids.ensures ∙ rw (c.in_ok-more.ensures.value, c.loop-one.invariant) (sym more')

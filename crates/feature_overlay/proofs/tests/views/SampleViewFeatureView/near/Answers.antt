@@ -1,4 +1,4 @@
-use Rattle.std.proofs.Common.{◌≡◌, ◌<◌, ℕ, suc, zero, List, [], ◌∷◌, length, get_or, map, IsTrue, refl, ap, arith}
+use Rattle.std.proofs.Common.{◌≡◌, ◌<◌, ◌≤◌, ℕ, suc, zero, List, [], ◌∷◌, length, get_or, map, IsTrue, refl, ap, arith}
 use Rattle.std.specs.Prelude.{Contains, not}
 use Rattle.std.proofs.lemmas.List.Elements.{All-map, All-weaker}
 use Rattle.std.proofs.lemmas.Result.{IfOk-weaker}
@@ -25,4 +25,11 @@ pub returns-clause-whole : goal.returns-clause-whole
 returns-clause-whole c = IfOk-weaker c.ids_of.result (λ (ids : List Rid). ids ≡ map (λ f. f.id) c.items.result.now) (λ ids. HasAllNear c.args._kind c.args._area.now c.args.self.now.features ids) (λ ids is k d lt near. rw (is, c.items.ensures) (contained c.args.self.now.features k d lt)) c.ids_of.ensures
 
 pub returns-clause-once : goal.returns-clause-once
-returns-clause-once c = IfOk-weaker c.ids_of.result (λ (ids : List Rid). ids ≡ map (λ f. f.id) c.items.result.now) (λ ids. IsOnce ids) (λ ids is. rw (is, c.items.ensures) (once c.args.self.now.features c.args.self.now.in_order)) c.ids_of.ensures
+returns-clause-once c = IfOk-weaker c.ids_of.result (λ (ids : List Rid). ids ≡ map (λ f. f.id) c.items.result.now) (λ ids. IsOnce ids) (λ ids is. rw (is, c.items.ensures) (once c.args.self.now.features c.args.self.now.is_view.order)) c.ids_of.ensures
+
+same_length : (fs : List Feature) → length (map (λ f. f.id) fs) ≡ length fs
+same_length [] = refl
+same_length (f ∷ fs) = ap suc (same_length fs)
+
+pub returns-clause-few : goal.returns-clause-few
+returns-clause-few c = IfOk-weaker c.ids_of.result (λ (ids : List Rid). ids ≡ map (λ f. f.id) c.items.result.now) (λ ids. length ids ≤ length c.args.self.now.features) (λ ids is. rw (is, c.items.ensures) (omega (arith, same_length c.args.self.now.features))) c.ids_of.ensures

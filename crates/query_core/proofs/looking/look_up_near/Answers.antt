@@ -1,0 +1,6 @@
+use Rattle.query_core.proofs.Asks.{near_selected}
+use Rattle.query_core.proofs.looking.look_up_near.Goals as goal
+
+pub look_up-requires-clause-whole : goal.look_up-requires-clause-whole
+look_up-requires-clause-whole g c =
+    rw c.deref.ensures.value (near_selected (g.V.FeatureView.features c.args.view.now) c.args.query.now c.args.area.now c.in_ok-ids.ids.items c.in_ok-ids.ensures.whole c.requires)
