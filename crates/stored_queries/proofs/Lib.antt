@@ -1,0 +1,6 @@
+pub mod Answers
+pub mod Created
+pub mod Found
+pub mod Pages
+pub mod Readings
+pub mod Turns

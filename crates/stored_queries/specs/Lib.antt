@@ -1,0 +1,5 @@
+pub mod Answered
+pub mod Kinds
+pub mod Listed
+pub mod Meant
+pub mod Paged
