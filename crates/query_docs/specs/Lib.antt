@@ -1,0 +1,7 @@
+pub mod Asked
+pub mod Definitions
+pub mod Elements
+pub mod Queries
+pub mod Reading
+pub mod Sorting
+pub mod Texts
