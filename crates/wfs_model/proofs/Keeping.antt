@@ -38,7 +38,8 @@ use Rattle.wfs_model.proofs.Stepping.{sound_kept, lock_keeps, page_keeps, renewa
 
 -- ---- features
 
-kind_within : (schema : Schema) (f : Feature) → Fits schema f → f.id.kind < length schema.types
+-- the type of a feature that the schema allows is one of its types
+pub kind_within : (schema : Schema) (f : Feature) → Fits schema f → f.id.kind < length schema.types
 unfolding feature_fits
 kind_within schema f fits = by_type (slice_get schema.types f.id.kind) refl fits
   where

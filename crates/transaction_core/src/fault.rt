@@ -1,0 +1,24 @@
+//! Why a transaction is not carried out.
+
+use wfs_ends::OutOfMemory;
+use wfs_model::Refusal;
+
+/// Why there is no plan.
+#[derive(Debug, PartialEq, Eq, Drop)]
+pub enum PlanFault {
+    /// The transaction is refused, because of its first part that is.
+    Refused(Refusal),
+    /// Memory ran out, or a type would have given more numbers than 64 bits hold.
+    OutOfMemory,
+}
+
+impl From<OutOfMemory> for PlanFault {
+    ghost use Rattle.std.specs.Prelude.{◌≡◌};
+    ghost use Rattle.transaction_core.specs.declared.fault.PlanFault.TheVariants.{OutOfMemory};
+
+    ghost from_gives = { λ _ e. e ≡ OutOfMemory };
+
+    fn from(_: OutOfMemory) -> Self {
+        PlanFault::OutOfMemory
+    }
+}
