@@ -1,7 +1,8 @@
 -- What follows from what is known.
 use Rattle.std.proofs.Common.{◌≡◌, inl, inr, ℕ, List, [], ◌∷◌, Bool, true, false, not, refl, sym, subst, cond}
 use Rattle.disk_core.specs.Disk.{Every}
-use Rattle.disk_core.specs.Sides.{chosen, spare, Within}
+use Rattle.disk_core.specs.Sides.{chosen, spare, Within, Always}
+use Rattle.disk_core.specs.Sides.Always.{once, then as link}
 use Rattle.disk_core.specs.declared.pair.Pair.{Pair}
 use Rattle.feature_journal.specs.Side.{side, Closed}
 use Rattle.feature_journal.specs.Whole.{OneOf, Ends, Idle, Harmless, Says}
@@ -85,3 +86,12 @@ says_or is_closed r a b tailed one (inr s) = inr (tailed, s)
 
 pub within_more : {D : Type 0} (moment : D → ℕ) (since : D → ℕ → List ℕ → Type 0) (P Q : List ℕ → List ℕ → Type 0) (old new : Pair D) → ((x y : List ℕ) → P x y → Q x y) → Within moment since P old new → Within moment since Q old new
 within_more moment since P Q old new is w = record { a = w.a; b = w.b; each = λ x y had_a had_b. is x y (w.each x y had_a had_b) }
+
+-- of a chain
+pub always_more : {D : Type 0} (moment : D → ℕ) (since : D → ℕ → List ℕ → Type 0) (P Q : List ℕ → List ℕ → Type 0) (old new : Pair D) → ((x y : List ℕ) → P x y → Q x y) → Always moment since P old new → Always moment since Q old new
+always_more moment since P Q old new is (once x y w) = once x y (within_more moment since P Q x y is w)
+always_more moment since P Q old new is (link x mid y w rest) = link x mid y (within_more moment since P Q x mid is w) (always_more moment since P Q mid y is rest)
+
+pub always_on : {D : Type 0} (moment : D → ℕ) (since : D → ℕ → List ℕ → Type 0) (P : List ℕ → List ℕ → Type 0) (old mid new : Pair D) → Always moment since P old mid → Always moment since P mid new → Always moment since P old new
+always_on moment since P old mid new (once x y w) more = link x y new w more
+always_on moment since P old mid new (link x z y w rest) more = link x z new w (always_on moment since P z y new rest more)

@@ -13,3 +13,4 @@ pub mod NextSide
 pub mod Quieted
 pub mod Recovered
 pub mod Refused
+pub mod EmptyDisk

@@ -1,5 +1,5 @@
 -- How the calls that settle two sides go on from one another.
-use Rattle.std.proofs.Common.{◌≡◌, ◌≤◌, inl, inr, ⊎_elim, ℕ, ◌<◌, ◌^◌, List, [], ◌∷◌, ◌++◌, length, Bool, true, false, not, refl, sym, ◌∙◌, ap, subst, cond, arith, Option, None, Some, IfSome, Result, Ok, Err, OnOk}
+use Rattle.std.proofs.Common.{◌≡◌, ◌≤◌, inl, inr, ℕ, ◌<◌, ◌^◌, List, [], ◌∷◌, ◌++◌, length, Bool, true, false, not, refl, sym, ◌∙◌, subst, cond, arith, Option, None, Some, IfSome, Result, Ok, Err, OnOk}
 use Rattle.std.proofs.lemmas.Bool.{cases_eq}
 use Rattle.std.specs.Int.{to_be_bytes, w64}
 use Rattle.disk_core.specs.Disk.{Leads, Goes, Every, Torn, Same, Begins, written, over}
@@ -9,7 +9,7 @@ use Rattle.disk_core.specs.declared.pair.Pair.{Pair}
 use Rattle.disk_core.proofs.Runs.{goes}
 use Rattle.disk_core.proofs.Seen.{if_some}
 use Rattle.feature_journal.specs.Side.{side, mark, Closed, Begun, ClosedOrBegun, Gate, behind}
-use Rattle.feature_journal.specs.Whole.{IsList, Idle, Harmless, Says}
+use Rattle.feature_journal.specs.Whole.{Idle, Harmless, Says}
 use Rattle.feature_journal.specs.Whole.Idle.{idle_shut}
 use Rattle.feature_journal.specs.Whole.Harmless.{short, shut, equal}
 use Rattle.feature_journal.specs.Whole.Ends.{closed}

@@ -1,18 +1,18 @@
 -- What is refused, and which side is current.
-use Rattle.std.proofs.Common.{◌≡◌, ◌≤◌, ℕ, zero, suc, ◌+◌, ◌-◌, ◌<◌, ◌^◌, List, [], ◌∷◌, ◌++◌, length, take, drop, refl, sym, ◌∙◌, ap, arith, append_assoc, length-append, Option, None, Some, nat_lt, ◌==◌, ◌&&◌, Bool, true, false, cond, if◌then◌else◌}
+use Rattle.std.proofs.Common.{◌≡◌, ◌≤◌, ℕ, zero, suc, ◌+◌, ◌-◌, ◌<◌, List, [], ◌∷◌, ◌++◌, length, take, drop, refl, sym, ◌∙◌, ap, arith, append_assoc, length-append, Option, None, Some, nat_lt, ◌==◌, Bool, true, false, cond}
 use Rattle.std.proofs.lemmas.Bool.Decides.{nat_tests}
 use Rattle.std.proofs.lemmas.List.{take_at}
 use Rattle.std.proofs.lemmas.Nat.{from_be_bytes-to_be_bytes_4}
 use Rattle.std.specs.List.{AllByRecursion, flat_map}
-use Rattle.std.specs.Int.{to_be_bytes, from_be_bytes, w32, w64}
+use Rattle.std.specs.Int.{to_be_bytes, from_be_bytes, w32}
 use Rattle.feature_journal.specs.Side.{side, mark, opened, framed}
 use Rattle.feature_journal.specs.Whole.{Fits, IsList}
 use Rattle.feature_journal.specs.Refused.{Foreign, Own, Able, Unable, Torn}
 use Rattle.feature_journal.specs.Refused.Own.{few, shut, marked}
 use Rattle.feature_journal.specs.Refused.Unable.{too_few, not_open}
 use Rattle.feature_journal.specs.Refused.Torn.{no_length, no_body}
-use Rattle.feature_journal.specs.Recover.{recover, unless_foreign, read_side, ended, tail_at, records_at, and_then, generation_of, foreign_at, differs_at, current_of, is_able, body_at, body_with}
-use Rattle.feature_journal.specs.Recover.Recovered.{not_a_journal, found}
+use Rattle.feature_journal.specs.Recover.{recover, unless_foreign, read_side, ended, records_at, and_then, generation_of, foreign_at, differs_at, current_of, is_able, body_at, body_with}
+use Rattle.feature_journal.specs.Recover.Recovered.{not_a_journal}
 use Rattle.feature_journal.proofs.Current.{able_headed, generation_headed, unable, unable_short}
 use Rattle.feature_journal.proofs.Parsed.{body_again}
 use Rattle.feature_journal.proofs.Recovered.{own_short, own_shut, own_marked, behind_head, side_size, count_bodies}

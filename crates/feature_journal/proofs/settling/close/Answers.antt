@@ -1,5 +1,5 @@
-use Rattle.std.proofs.Common.{List, ◌∷◌, [], false, true, refl, subst, sym}
-use Rattle.disk_core.specs.Disk.{Torn, Same, Every}
+use Rattle.std.proofs.Common.{[], false, subst, sym}
+use Rattle.disk_core.specs.Disk.{Torn, Same}
 use Rattle.disk_core.specs.Sides.{chosen, Within}
 use Rattle.disk_core.proofs.Runs.{leads_more, every_on}
 use Rattle.disk_core.proofs.Seen.{ok_more, ok_all}

@@ -5,7 +5,7 @@ use Rattle.disk_core.specs.Sides.Always.{once, then}
 use Rattle.disk_core.specs.StoryLaws.{torn_none}
 use Rattle.disk_core.proofs.Seen.{ok_more}
 use Rattle.feature_journal.specs.Whole.{Says}
-use Rattle.feature_journal.specs.Settled.{Known, SaysOr}
+use Rattle.feature_journal.specs.Settled.{SaysOr}
 use Rattle.feature_journal.proofs.Knowing.{within_more}
 use Rattle.feature_journal.proofs.Quieted.{quieted_goes, known_quieted, placed_quieted}
 use Rattle.disk_core.proofs.Runs.{leads_still}

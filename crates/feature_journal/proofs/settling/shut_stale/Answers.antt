@@ -1,4 +1,4 @@
-use Rattle.std.proofs.Common.{true, false, refl, sym, subst, ap, ◌∙◌}
+use Rattle.std.proofs.Common.{true, false, sym, subst, ap, ◌∙◌}
 use Rattle.disk_core.specs.Disk.{Torn, Leads}
 use Rattle.disk_core.specs.Sides.Always.{once, then}
 use Rattle.disk_core.specs.StoryLaws.{torn_none}

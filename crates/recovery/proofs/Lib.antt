@@ -1,0 +1,10 @@
+pub mod Records
+pub mod Heads
+pub mod Walking
+pub mod Turns
+pub mod Agrees
+pub mod Finding
+pub mod Looking
+pub mod Choosing
+pub mod Writing
+pub mod Phases

@@ -1,0 +1,36 @@
+//! What the bodies of records are handed to.
+
+ghost use Rattle.std.specs.Prelude.{◌≡◌, [], ℕ, List, length};
+ghost use Rattle.recovery.specs.Replay.{Verdict, Answers, taken_after};
+
+/// Why a record was not taken.
+#[derive(Clone, Copy, Debug, PartialEq, Eq)]
+pub enum ReplayFault {
+    /// Its bytes are no record.
+    BadBytes,
+    /// It is a record that does not fit the schema, or not behind those before it.
+    NotOfSchema,
+    OutOfMemory,
+}
+
+/// What takes the bodies of a journal's records, one after the other.
+pub trait Replay {
+    /// The bodies that were taken since the last restart.
+    ghost taken: { Self → List (List ℕ) };
+
+    /// What comes of a body behind those that were taken. No call changes it.
+    ghost verdict: { Self → List (List ℕ) → List ℕ → Verdict };
+
+    /// Forgets what was taken.
+    fn restart(&mut self)
+        ensures taken { taken self.new ≡ [] }
+        ensures verdict { verdict self.new ≡ verdict self.old };
+
+    /// Takes a body, whose number is how many were taken before it. It answers the verdict, or want of memory, and
+    /// takes the body only where it answers Ok.
+    fn take_record(&mut self, number: u64, body: &[u8]) -> Result<(), ReplayFault>
+        requires { number ≡ length (taken self.old) }
+        ensures answer { Answers result (verdict self.old (taken self.old) body.now) }
+        ensures taken { taken self.new ≡ taken_after result (taken self.old) body.now }
+        ensures verdict { verdict self.new ≡ verdict self.old };
+}
