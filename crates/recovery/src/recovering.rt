@@ -87,7 +87,7 @@ fn take_over<D: Disk>(
 }
 
 /// What two files are recovered to: the journal of the list that their current side says, where `side` is the limit of
-/// a side's length. Where no side is current it makes side a, with no record.
+/// a side's length, at most 268,435,456 bytes. Where no side is current it makes side a, with no record.
 ///
 /// Both files are synced and read. Sides that are no journal's are refused first, then each record of the current side
 /// in turn: whether it lies within the file, whether the length stays within the limit, and whether the replay takes it.
