@@ -1,4 +1,4 @@
-use Rattle.std.proofs.Common.{◌≡◌, ◌<◌, Ok, length, take, subst, sym, ap, ◌∙◌}
+use Rattle.std.proofs.Common.{◌≡◌, Ok, length, take, subst, sym, ap, ◌∙◌}
 use Rattle.feature_values.specs.declared.schema.Schema.{Schema}
 use Rattle.feature_values.specs.Fits.{feature_fits}
 use Rattle.feature_overlay.specs.Laid.{all_laid}
