@@ -58,13 +58,21 @@ pub fn misplaced(alloc: Global, element: &Element) -> AskFault
     refused(alloc, 8, element.name.local.as_str())
 }
 
+/// Refuses elements where none is allowed: the first is row 8 with its local name.
+pub fn no_children(alloc: Global, elements: &[Element]) -> Result<(), AskFault>
+    ensures { GivesBut AskFault.OutOfMemory (λ x. x) result (no_children elements.now) }
+{
+    match elements {
+        [] => Ok(()),
+        [child, ..] => Err(misplaced(alloc, child)),
+    }
+}
+
 /// The text of an element that holds text alone: a child is row 8 with the child's local name.
 #[tactic(auto, unfolding(crate::specs::Elements::text_in))]
 pub fn text_in<'a>(alloc: Global, element: &'a Element) -> Result<&'a Text, AskFault>
     ensures { GivesBut AskFault.OutOfMemory (λ text. text.now) result (text_in element.now) }
 {
-    match element.children.items() {
-        [] => Ok(&element.text),
-        [child, ..] => Err(misplaced(alloc, child)),
-    }
+    no_children(alloc, element.children.items())?;
+    Ok(&element.text)
 }

@@ -11,7 +11,7 @@ mod said;
 mod stored;
 
 pub use base::{format_of, negotiated, service_of, srs_of, version_of};
-pub use elements::{Attributes, is_wfs, misplaced, no_others, text_in};
+pub use elements::{Attributes, is_wfs, misplaced, no_children, no_others, text_in};
 pub use locking::{expiry_of, lock_of, period_of, release_of, take_of};
 pub use operation::{Operation, operation_of, queried_of};
 pub use paging::{Page, locked_page_of, page_of};

@@ -1,1 +1,5 @@
+pub mod Allowed
+pub mod Changed
 pub mod Each
+pub mod Fitting
+pub mod Readings

@@ -1,3 +1,13 @@
-pub mod Attributes
+pub mod Actions
+pub mod Base
+pub mod Capabilities
+pub mod Changes
+pub mod Describing
 pub mod Features
+pub mod Fetching
+pub mod Inserts
+pub mod Requests
+pub mod StoredQueries
 pub mod Transactions
+pub mod Updates
+pub mod Values

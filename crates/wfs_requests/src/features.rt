@@ -1,22 +1,64 @@
 //! Features that come in.
 
-ghost use Rattle.std.specs.Prelude.{◌≡◌, ◌<◌, false, IfOk, OnOk, length, map, codes, slice_get};
+ghost use Rattle.std.specs.Prelude.{◌≡◌, false, IfOk, OnOk, length, map, codes, slice_get};
+ghost use Rattle.std.specs.Option.{option_copied};
 ghost use Rattle.wfs_ends.specs.Read.{GivesBut, each};
 ghost use Rattle.gml_docs.specs.Elements.{is_gml};
 ghost use Rattle.feature_values.specs.declared.value.Value.TheVariants.{Null as NullValue};
-ghost use Rattle.wfs_requests.specs.Features.{so_far, place_of, misplaced, with_value, next_value, one_met, all_met, values_of, kind_of, feature_of};
+ghost use Rattle.wfs_requests.specs.Features.{is_true, is_nil, value_of, so_far, place_of, stray, with_value, next_value, one_met, all_met, values_of, kind_of, feature_of};
 
-use crate::attributes::no_others;
-use crate::values::{unfit, value_of};
-use doc_attributes::is_name;
+use crate::values::{content_of, is_empty, null_of, unfit};
+use doc_attributes::{is_name, value_at};
 use doc_tree::Element;
 use feature_values::{Feature, FeatureType, Property, Rid, Schema, Value};
+use request_terms::no_others;
 use std::alloc::Global;
 use wfs_ends::{List, Mem, Text};
 use wfs_model::{AskFault, refused};
 
 // The namespace of GML 3.2.
 const GML: &str = "http://www.opengis.net/gml/3.2";
+
+// The namespace of attributes for instances of XML Schema.
+const INSTANCE: &str = "http://www.w3.org/2001/XMLSchema-instance";
+
+// ---- one property
+
+fn is_true(value: Option<&Text>) -> bool
+    ensures { result ≡ is_true (option_copied value.entry) }
+{
+    match value {
+        None => false,
+        Some(value) => value.as_str() == "true" || value.as_str() == "1",
+    }
+}
+
+// Whether an element without content says that it is null.
+#[tactic(auto, unfolding(crate::specs::Features::is_nil))]
+fn is_nil(element: &Element) -> bool
+    ensures { result ≡ is_nil element.now }
+{
+    is_true(value_at(element.attributes.items(), INSTANCE, "nil")) && is_empty(element)
+}
+
+// The value of the element of a property.
+#[tactic(auto, unfolding(crate::specs::Features::value_of))]
+fn value_of(
+    alloc: Global,
+    srs: &List<Text>,
+    property: &Property,
+    element: &Element,
+) -> Result<Value, AskFault>
+    ensures { GivesBut AskFault.OutOfMemory (λ v. v) result (value_of srs.now property.now element.now) }
+{
+    no_others(alloc, element, &[])?;
+    if is_nil(element) {
+        return null_of(alloc, property);
+    }
+    content_of(alloc, srs, property, element)
+}
+
+// ---- a feature
 
 // No property was met so far.
 fn none_met(alloc: Global, properties: &[Property]) -> Mem<Vec<bool>>
@@ -51,8 +93,8 @@ fn place_of(schema: &Schema, of_type: &FeatureType, element: &Element) -> Option
     of_type.property_named(element.name.local.as_str())
 }
 
-fn misplaced(alloc: Global, element: &Element) -> AskFault
-    ensures { (result ≡ AskFault.OutOfMemory → ⊥) → result ≡ misplaced element.now }
+fn stray(alloc: Global, element: &Element) -> AskFault
+    ensures { (result ≡ AskFault.OutOfMemory → ⊥) → result ≡ stray element.now }
 {
     refused(alloc, 14, element.name.local.as_str())
 }
@@ -82,10 +124,10 @@ fn add_value(
     ensures values { length values.new.items ≡ length properties.now }
 {
     let Some(property) = properties.get(place) else {
-        return Err(misplaced(alloc, element));
+        return Err(stray(alloc, element));
     };
     if met[place] {
-        return Err(misplaced(alloc, element));
+        return Err(stray(alloc, element));
     }
     let value = value_of(alloc, srs, property, element)?;
     met[place] = true;
@@ -113,7 +155,7 @@ fn next_value(
         return Ok(());
     }
     let Some(place) = place_of(schema, of_type, element) else {
-        return Err(misplaced(alloc, element));
+        return Err(stray(alloc, element));
     };
     let properties = of_type.properties.items();
     add_value(
@@ -180,7 +222,7 @@ pub(crate) fn values_of(
 ) -> Result<Vec<Value>, AskFault>
     ensures { GivesBut AskFault.OutOfMemory (λ v. v.items) result (values_of schema.now of_type.now element.now) }
 {
-    no_others(alloc, element.attributes.items(), &[])?;
+    no_others(alloc, element, &[])?;
     let properties = of_type.properties.items();
     let mut met = none_met(alloc, properties)?;
     let mut values = all_null(alloc, properties)?;
@@ -214,14 +256,13 @@ pub(crate) fn feature_of(
     schema: &Schema,
     element: &Element,
 ) -> Result<Feature, AskFault>
-    ensures gives { GivesBut AskFault.OutOfMemory (λ f. f) result (feature_of schema.now element.now) }
-    ensures types { IfOk result (λ f. f.id.kind < length schema.now.types) }
+    ensures { GivesBut AskFault.OutOfMemory (λ f. f) result (feature_of schema.now element.now) }
 {
     let Some(kind) = kind_of(schema, element) else {
-        return Err(misplaced(alloc, element));
+        return Err(stray(alloc, element));
     };
     let Some(of_type) = schema.types.items().get(kind as usize) else {
-        return Err(misplaced(alloc, element));
+        return Err(stray(alloc, element));
     };
     let values = values_of(alloc, schema, of_type, element)?;
     Ok(Feature::of(alloc, Rid { kind, number: 0 }, values)?)

@@ -2,12 +2,21 @@
 //! told why it is refused.
 #![tactic(auto)]
 
-mod attributes;
+mod actions;
+mod base;
+mod capabilities;
+mod changes;
+mod describing;
 mod features;
+mod fetching;
+mod inserts;
+mod request;
+mod stored_queries;
 mod transactions;
+mod updates;
 mod values;
 
-pub use transactions::read_request;
+pub use request::read_request;
 
 #[cfg(test)]
 mod tests;

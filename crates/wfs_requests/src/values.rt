@@ -1,32 +1,16 @@
-//! The value of a property's element.
+//! A value as the content of an element.
 
 ghost use Rattle.std.specs.Prelude.{◌≡◌};
-ghost use Rattle.std.specs.Option.{option_copied};
 ghost use Rattle.wfs_ends.specs.Read.{GivesBut};
-ghost use Rattle.wfs_requests.specs.Features.{is_geometry, unfit, shape_of, only_shape, word_of, content_of, is_true, is_nil, null_of, value_of};
+ghost use Rattle.wfs_requests.specs.Values.{unfit, shape_of, only_shape, word_of, content_of, null_of, is_empty};
 
-use crate::attributes::no_others;
-use doc_attributes::value_at;
 use doc_tree::Element;
-use feature_values::{Property, Value, ValueFault, ValueKind, is_of_kind, read_value};
+use feature_values::{Property, Value, ValueFault, is_of_kind, read_value};
+use fes_filter::is_shape;
 use gml_docs::{GmlFault, read_geometry};
 use std::alloc::Global;
 use wfs_ends::{List, Text};
 use wfs_model::{AskFault, refused};
-
-// The namespace of attributes for instances of XML Schema.
-const INSTANCE: &str = "http://www.w3.org/2001/XMLSchema-instance";
-
-// ---- one value
-
-fn is_geometry(kind: ValueKind) -> bool
-    ensures { result ≡ is_geometry kind }
-{
-    match kind {
-        ValueKind::Point | ValueKind::Line | ValueKind::Polygon => true,
-        ValueKind::Words | ValueKind::Whole | ValueKind::Truth => false,
-    }
-}
 
 // A value that does not fit its property.
 pub(crate) fn unfit(alloc: Global, property: &Property) -> AskFault
@@ -36,7 +20,7 @@ pub(crate) fn unfit(alloc: Global, property: &Property) -> AskFault
 }
 
 // A geometry of the property's kind.
-#[tactic(auto, unfolding(crate::specs::Features::shape_of))]
+#[tactic(auto, unfolding(crate::specs::Values::shape_of))]
 fn shape_of(
     alloc: Global,
     srs: &List<Text>,
@@ -73,7 +57,7 @@ fn only_shape(
 }
 
 // A text that the property's kind reads.
-#[tactic(auto, unfolding(crate::specs::Features::word_of))]
+#[tactic(auto, unfolding(crate::specs::Values::word_of))]
 fn word_of(alloc: Global, property: &Property, element: &Element) -> Result<Value, AskFault>
     ensures { GivesBut AskFault.OutOfMemory (λ v. v) result (word_of property.now element.now) }
 {
@@ -88,8 +72,8 @@ fn word_of(alloc: Global, property: &Property, element: &Element) -> Result<Valu
 }
 
 // The content of an element as a value of a property.
-#[tactic(auto, unfolding(crate::specs::Features::content_of))]
-fn content_of(
+#[tactic(auto, unfolding(crate::specs::Values::content_of))]
+pub(crate) fn content_of(
     alloc: Global,
     srs: &List<Text>,
     property: &Property,
@@ -97,34 +81,14 @@ fn content_of(
 ) -> Result<Value, AskFault>
     ensures { GivesBut AskFault.OutOfMemory (λ v. v) result (content_of srs.now property.now element.now) }
 {
-    if is_geometry(property.kind) {
+    if is_shape(property.kind) {
         return only_shape(alloc, srs, property, element.children.items());
     }
     word_of(alloc, property, element)
 }
 
-// ---- one property
-
-fn is_true(value: Option<&Text>) -> bool
-    ensures { result ≡ is_true (option_copied value.entry) }
-{
-    match value {
-        None => false,
-        Some(value) => value.as_str() == "true" || value.as_str() == "1",
-    }
-}
-
-// Whether an element without content says that it is null.
-#[tactic(auto, unfolding(crate::specs::Features::is_nil))]
-fn is_nil(element: &Element) -> bool
-    ensures { result ≡ is_nil element.now }
-{
-    is_true(value_at(element.attributes.items(), INSTANCE, "nil"))
-        && element.children.items().is_empty()
-        && element.text.as_str().is_empty()
-}
-
-fn null_of(alloc: Global, property: &Property) -> Result<Value, AskFault>
+// Null, which a required property never is.
+pub(crate) fn null_of(alloc: Global, property: &Property) -> Result<Value, AskFault>
     ensures { GivesBut AskFault.OutOfMemory (λ v. v) result (null_of property.now) }
 {
     if property.required {
@@ -133,19 +97,10 @@ fn null_of(alloc: Global, property: &Property) -> Result<Value, AskFault>
     Ok(Value::Null)
 }
 
-// The value of the element of a property.
-#[tactic(auto, unfolding(crate::specs::Features::value_of))]
-pub(crate) fn value_of(
-    alloc: Global,
-    srs: &List<Text>,
-    property: &Property,
-    element: &Element,
-) -> Result<Value, AskFault>
-    ensures { GivesBut AskFault.OutOfMemory (λ v. v) result (value_of srs.now property.now element.now) }
+// Whether an element has neither child nor text.
+#[tactic(auto, unfolding(crate::specs::Values::is_empty))]
+pub(crate) fn is_empty(element: &Element) -> bool
+    ensures { result ≡ is_empty element.now }
 {
-    no_others(alloc, element.attributes.items(), &[])?;
-    if is_nil(element) {
-        return null_of(alloc, property);
-    }
-    content_of(alloc, srs, property, element)
+    element.children.items().is_empty() && element.text.as_str().is_empty()
 }

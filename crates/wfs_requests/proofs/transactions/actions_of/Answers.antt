@@ -5,15 +5,12 @@ use Rattle.wfs_requests.specs.Transactions.{next_action}
 use Rattle.wfs_requests.proofs.transactions.actions_of.Goals as goal
 
 pub loop-element-preserved : goal.loop-element-preserved
-loop-element-preserved c = record {
-  reads = goes_on (next_action c.args.schema.now) _ _ _ _ _ c.loop-element-test.true c.element-item.is _ c.in_ok-add_action.ensures.gives c.loop-element.invariant.reads;
-  types = c.in_ok-add_action.ensures.types c.loop-element.invariant.types;
-}
+loop-element-preserved c = goes_on (next_action c.args.schema.now) _ _ _ _ _ c.loop-element-test.true c.element-item.is _ c.in_ok-add_action.ensures c.loop-element.invariant
 
-pub returns-in_err-add_action-clause-gives : goal.returns-in_err-add_action-clause-gives
-returns-in_err-add_action-clause-gives c =
+pub returns-in_err-add_action : goal.returns-in_err-add_action
+returns-in_err-add_action c =
     let p = err_from_is_err_and c.from_residual.result c.from_residual.ensures.1 in
-    rw (p.1, p.2) (fails (next_action c.args.schema.now) _ _ _ _ _ c.loop-element-test.true c.element-item.is _ _ c.in_err-add_action.ensures.gives c.loop-element.invariant.reads)
+    rw (p.1, p.2) (fails (next_action c.args.schema.now) _ _ _ _ _ c.loop-element-test.true c.element-item.is _ _ c.in_err-add_action.ensures c.loop-element.invariant)
 
-pub returns-clause-gives : goal.returns-clause-gives
-returns-clause-gives c = sym c.loop-element.invariant.reads ∙ ends (next_action c.args.schema.now) _ _ _ c.loop-element-test.false
+pub returns : goal.returns
+returns c = sym c.loop-element.invariant ∙ ends (next_action c.args.schema.now) _ _ _ c.loop-element-test.false

@@ -1,0 +1,16 @@
+use Rattle.std.proofs.Common.{sym, ◌∙◌}
+use Rattle.std.proofs.lemmas.Result.{err_from_is_err_and}
+use Rattle.gml_docs.proofs.Loops.{goes_on, fails, ends}
+use Rattle.wfs_requests.specs.Capabilities.{next_accepted}
+use Rattle.wfs_requests.proofs.capabilities.all_accepted.Goals as goal
+
+pub loop-element-preserved : goal.loop-element-preserved
+loop-element-preserved c = goes_on next_accepted _ _ _ _ _ c.loop-element-test.true c.element-item.is _ c.in_ok-found.ensures c.loop-element.invariant
+
+pub returns-in_err-found : goal.returns-in_err-found
+returns-in_err-found c =
+    let p = err_from_is_err_and c.from_residual.result c.from_residual.ensures.1 in
+    rw (p.1, p.2) (fails next_accepted _ _ _ _ _ c.loop-element-test.true c.element-item.is _ _ c.in_err-found.ensures c.loop-element.invariant)
+
+pub returns : goal.returns
+returns c = sym c.loop-element.invariant ∙ ends next_accepted _ _ _ c.loop-element-test.false

@@ -1,0 +1,7 @@
+use Rattle.std.proofs.Common.{◌≡◌, [], drop}
+use Rattle.wfs_ends.specs.Read.{each}
+use Rattle.wfs_requests.specs.StoredQueries.{next_stored}
+use Rattle.wfs_requests.proofs.stored_queries.all_stored.Given as goal
+
+abbrev pub invariant-loop-element : goal.invariant-loop-element
+invariant-loop-element l = each (next_stored l.schema) l.found.items (drop l.element-index l.elements) ≡ each (next_stored l.schema) [] l.elements
