@@ -1,4 +1,5 @@
 pub mod Finds
 pub mod Keys
-pub mod Reading
+pub mod Requests
+pub mod Sound
 pub mod Splits

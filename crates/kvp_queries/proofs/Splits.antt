@@ -5,7 +5,8 @@ use Rattle.std.proofs.lemmas.List.Splits.{slice_split_first, length-slice_split,
 use Rattle.std.specs.List.{position_or_len, before_first, after_first, slice_split, onto_first, join_with_byte}
 use Rattle.feature_values.specs.declared.schema.Schema.{Schema}
 use Rattle.wfs_model.specs.Terms.{is_listed}
-use Rattle.kvp_queries.specs.Selection.{is_comma, is_system}
+use Rattle.kvp_queries.specs.Lists.{is_comma}
+use Rattle.kvp_queries.specs.Selection.{is_system}
 
 pub first_part : (p : ℕ → Bool) (text : List ℕ) → position_or_len p text < length text → slice_split p text ≡ before_first p text ∷ slice_split p (after_first p text)
 first_part p text lt = slice_split_first p text 0 lt

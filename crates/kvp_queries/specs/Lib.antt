@@ -1,4 +1,5 @@
-pub mod Judging
+pub mod Asking
+pub mod Lists
 pub mod Pairs
 pub mod Request
 pub mod Selection

@@ -1,132 +1,156 @@
--- The request that a query asks, or what is wrong first, in the order of judging: names that come twice, in the query's order; the
--- service; the operation; the version; the operation's parameters in the order in which the operation lists them; and what is missing.
-use Rattle.std.specs.Prelude.{ℕ, Bool, true, false, not, ◌||◌, if◌then◌else◌, List, [], ◌∷◌, Option, Some, None, unwrap_or, is_some, Ok, Err, codes}
-use Rattle.std.specs.Str.{bytes_eq}
-use Rattle.wfs_ends.specs.Read.{◌>>=◌, unless}
+-- The request that a query asks, or what is wrong first, in the order of judging: listed names that come twice, in the query's order;
+-- the service; the operation; the version; the operation's parameters in the order in which it lists them; what is missing; and last
+-- the property whose values are asked for.
+use Rattle.std.specs.Prelude.{ℕ, Bool, not, ◌||◌, List, [], ◌∷◌, ◌++◌, Option, Some, None, is_some, Ok, Err, codes}
+use Rattle.wfs_ends.specs.Read.{◌>>=◌, each, unless}
 use Rattle.feature_values.specs.declared.schema.Schema.{Schema}
-use Rattle.fes_filter.specs.declared.query.Query.{Query}
-use Rattle.wfs_model.specs.Terms.{refused, is_version, is_format, count_of}
-use Rattle.wfs_model.specs.declared.asked.Asked.TheVariants.{Plain}
+use Rattle.lock_table.specs.declared.id.LockId.{LockId}
+use Rattle.wfs_model.specs.Terms.{refused}
+use Rattle.wfs_model.specs.declared.request.Take.{Take}
 use Rattle.wfs_model.specs.declared.request.Request.{Request}
-use Rattle.wfs_model.specs.declared.request.Request.TheVariants.{GetFeatures}
-use Rattle.kvp_queries.specs.declared.presenting.Page.{Page}
-use Rattle.kvp_queries.specs.Pairs.{Pair, pairs_of, given_of, value_of, link_of}
-use Rattle.kvp_queries.specs.Judging.{Ask, or_fault, allowed, not_built, unread}
-use Rattle.kvp_queries.specs.Selection.{kind_of, srs_of, chosen}
-use Rattle.kvp_queries.specs.Sorting.{keys_of}
+use Rattle.wfs_model.specs.declared.request.Request.TheVariants.{Capabilities, DescribeTypes, GetFeatures, GetValues, GetLocked, Lock, Renew, ListStored, DescribeStored, DropStored}
+use Rattle.request_terms.specs.Said.{Said, Ask, required_of, kind_of}
+use Rattle.request_terms.specs.Base.{service_of, version_of, format_of, negotiated}
+use Rattle.request_terms.specs.Paging.{page_of, locked_page_of, presented}
+use Rattle.request_terms.specs.Locking.{take_of, lock_of, expiry_of, period_of}
+use Rattle.request_terms.specs.Operations.{name_of, queried_of}
+use Rattle.request_terms.specs.Stored.{dropped_of}
+use Rattle.request_terms.specs.declared.operation.Operation.{Operation}
+use Rattle.request_terms.specs.declared.operation.Operation.TheVariants.{GetCapabilities, DescribeFeatureType, GetPropertyValue, GetFeature, GetFeatureWithLock, LockFeature, Transaction, ListStoredQueries, DescribeStoredQueries, CreateStoredQuery, DropStoredQuery}
+use Rattle.kvp_queries.specs.Pairs.{Pair, pairs_of, listed_of, said_by, link_of}
+use Rattle.kvp_queries.specs.Lists.{items_if}
+use Rattle.kvp_queries.specs.Selection.{type_names_of}
+use Rattle.kvp_queries.specs.Asking.{query_of, stored_id, enough_of, asked_by, valued}
 
 -- ---- the base of a request (section 7.6.2)
 
-unfoldable pub service_of : List Pair → Ask (Unit {0})
-service_of given = do
-  text ← or_fault (value_of (codes "service") given) (refused 10 (codes "service"))
-  unless (not (bytes_eq text (codes "WFS"))) (refused 11 (codes "service"))
+-- The version is agreed on by GetCapabilities, which says by itself which ones a client accepts.
+abbrev pub version_for : Operation → Said → Ask (Unit {0})
+version_for GetCapabilities said = Ok tt
+version_for operation said = version_of said
 
--- the operations that may be asked for as a query, other than GetFeature
-unfoldable pub is_other_operation : List ℕ → Bool
-is_other_operation name =
-    bytes_eq name (codes "GetCapabilities") || (bytes_eq name (codes "DescribeFeatureType") || (bytes_eq name (codes "GetPropertyValue")
-    || (bytes_eq name (codes "GetFeatureWithLock") || (bytes_eq name (codes "LockFeature") || (bytes_eq name (codes "ListStoredQueries")
-    || (bytes_eq name (codes "DescribeStoredQueries") || bytes_eq name (codes "DropStoredQuery")))))))
+unfoldable pub base_of : Said → Ask Operation
+base_of said = do
+  _ ← service_of said
+  operation ← queried_of said
+  _ ← version_for operation said
+  Ok operation
 
--- the operation: GetFeature, as long as no other one is built
-unfoldable pub operation_of : List Pair → Ask (Unit {0})
-operation_of given = do
-  name ← or_fault (value_of (codes "request") given) (refused 10 (codes "request"))
-  _ ← unless (is_other_operation name) not_built
-  unless (not (bytes_eq name (codes "GetFeature"))) (refused 9 name)
+-- ---- what the service has: GetCapabilities (section 8), DescribeFeatureType (9), stored queries (14)
 
-unfoldable pub version_of : List Pair → Ask (Unit {0})
-version_of given = allowed is_version (refused 11 (codes "version")) (value_of (codes "version") given)
+unfoldable pub capabilities_of : Said → Ask Request
+capabilities_of said = do
+  _ ← negotiated (items_if (said (codes "acceptVersions")))
+  Ok Capabilities
 
--- ---- how features are presented (sections 7.6.3 and 7.6.4)
+unfoldable pub next_type : Schema → List ℕ → List ℕ → Ask (List ℕ)
+next_type schema kinds name = kind_of schema (codes "typeNames") name >>= λ kind. Ok (kinds ++ kind ∷ [])
 
-abbrev pub number_in : List ℕ → Option (List ℕ) → Ask (Option ℕ)
-number_in name None = Ok None
-number_in name (Some text) = or_fault (count_of text) (refused 11 name) >>= λ number. Ok (Some number)
+-- types by name; none stands for all
+unfoldable pub types_of : Schema → Said → Ask Request
+types_of schema said = do
+  kinds ← each (next_type schema) [] (items_if (type_names_of said))
+  _ ← format_of (codes "outputFormat") said
+  Ok (DescribeTypes kinds)
 
--- the number at a name
-unfoldable pub number_at : List ℕ → List Pair → Ask (Option ℕ)
-number_at name given = number_in name (value_of name given)
+-- stored queries by their identifiers; none stands for all
+unfoldable pub described_of : Said → Ask Request
+described_of said = Ok (DescribeStored (items_if (stored_id said)))
 
-abbrev pub is_hits : List ℕ → Ask Bool
-is_hits text = if bytes_eq text (codes "hits") then Ok true else (if bytes_eq text (codes "results") then Ok false else Err (refused 11 (codes "resultType")))
+unfoldable pub drop_of : Said → Ask Request
+drop_of said = dropped_of (codes "storedQuery_id") said >>= λ id. Ok (DropStored id)
 
--- whether features are only counted
-unfoldable pub hits_of : List Pair → Ask Bool
-hits_of given = hits_in (value_of (codes "resultType") given)
-  where
-    hits_in : Option (List ℕ) → Ask Bool
-    hits_in None = Ok false
-    hits_in (Some text) = is_hits text
+-- ---- features and values: GetFeature (section 11), GetPropertyValue (10)
 
-unfoldable pub format_of : List Pair → Ask (Unit {0})
-format_of given = allowed is_format (refused 11 (codes "outputFormat")) (value_of (codes "outputFormat") given)
+unfoldable pub features_of : Schema → List Pair → Said → Ask Request
+features_of schema pairs said = do
+  page ← page_of said
+  query ← query_of schema said
+  _ ← enough_of said
+  Ok (GetFeatures (presented page (Some (link_of schema.address pairs))) (asked_by GetFeature pairs said query ∷ []))
 
--- references are never resolved
-unfoldable pub resolve_of : List Pair → Ask (Unit {0})
-resolve_of given = allowed (λ text. bytes_eq text (codes "none")) (refused 12 (codes "resolve")) (value_of (codes "resolve") given)
+unfoldable pub values_of : Schema → List Pair → Said → Ask Request
+values_of schema pairs said = do
+  page ← page_of said
+  query ← query_of schema said
+  name ← required_of (codes "valueReference") said
+  _ ← enough_of said
+  asked ← valued schema pairs query name (stored_id said)
+  Ok (GetValues (presented page (Some (link_of schema.address pairs))) asked.0 asked.1)
 
--- which features are presented, and how
-unfoldable pub page_of : List Pair → Ask Page
-page_of given = do
-  count ← number_at (codes "count") given
-  start ← number_at (codes "startIndex") given
-  hits ← hits_of given
-  _ ← format_of given
-  _ ← resolve_of given
-  Ok (record { start = unwrap_or start 0; count = count; hits = hits })
+-- ---- locks: GetFeatureWithLock (section 13), LockFeature (12)
 
--- ---- which features are asked for (section 7.9.2)
+unfoldable pub locked_of : Schema → List Pair → Said → Ask Request
+locked_of schema pairs said = do
+  page ← locked_page_of said
+  query ← query_of schema said
+  period ← period_of said
+  take ← take_of said
+  _ ← enough_of said
+  Ok (GetLocked (presented page None) (asked_by GetFeatureWithLock pairs said query ∷ []) take period)
 
--- features come with all their properties
-unfoldable pub property_name_of : List Pair → Ask (Unit {0})
-property_name_of given = allowed (λ text. bytes_eq text (codes "*")) (refused 12 (codes "propertyName")) (value_of (codes "propertyName") given)
+-- a new lock
+unfoldable pub new_lock : Schema → List Pair → Said → Take → Ask Request
+new_lock schema pairs said take = do
+  query ← query_of schema said
+  _ ← enough_of said
+  period ← period_of said
+  Ok (Lock (asked_by LockFeature pairs said query ∷ []) take period)
 
--- the type asked for, and the reference system
-unfoldable pub typed_of : Schema → List Pair → Ask (Option ℕ)
-typed_of schema given = do
-  _ ← unread (codes "storedQuery_id") given
-  kind ← kind_of schema given
-  _ ← srs_of schema given
-  Ok kind
+-- whether a request names features by a stored query, by a type or in a reference system
+unfoldable pub names_features : Said → Bool
+names_features said = is_some (stored_id said) || (is_some (type_names_of said) || is_some (said (codes "srsName")))
 
--- Without a type, resource ids have to be given.
-unfoldable pub enough_of : Option ℕ → List Pair → Ask (Unit {0})
-enough_of kind given = unless (not (is_some kind || is_some (value_of (codes "resourceId") given))) (refused 10 (codes "typeNames"))
+-- whether a request chooses among features
+unfoldable pub chooses_features : Said → Bool
+chooses_features said = is_some (said (codes "resourceId")) || (is_some (said (codes "filter")) || is_some (said (codes "bbox")))
 
-unfoldable pub query_of : Schema → List Pair → Ask Query
-query_of schema given = do
-  kind ← typed_of schema given
-  filter ← chosen schema kind given
-  sort ← keys_of schema kind given
-  _ ← property_name_of given
-  _ ← enough_of kind given
-  Ok (record { kind = kind; filter = filter; sort = sort })
+-- whether a request asks for features
+unfoldable pub asks_for_features : Said → Bool
+asks_for_features said =
+    names_features said || (chooses_features said || (is_some (said (codes "sortBy")) || is_some (said (codes "propertyName"))))
+
+-- the lock that a client has lives longer: no features are asked for beside it (12.2.4.2)
+unfoldable pub renewed : Said → LockId → Option ℕ → Ask Request
+renewed said lock expiry = do
+  _ ← unless (asks_for_features said) (refused 11 (codes "lockId"))
+  Ok (Renew lock expiry)
+
+abbrev pub lock_by : Schema → List Pair → Said → Option ℕ → Take → Option LockId → Ask Request
+lock_by schema pairs said expiry take None = new_lock schema pairs said take
+lock_by schema pairs said expiry take (Some lock) = renewed said lock expiry
+
+unfoldable pub lock_asked : Schema → List Pair → Said → Ask Request
+lock_asked schema pairs said = do
+  lock ← lock_of said
+  expiry ← expiry_of said
+  take ← take_of said
+  lock_by schema pairs said expiry take lock
 
 -- ---- the request
 
-unfoldable pub base_of : List Pair → Ask (Unit {0})
-base_of given = do
-  _ ← service_of given
-  _ ← operation_of given
-  version_of given
+-- the request of an operation; two of them do not come as queries
+unfoldable pub request_of : Schema → List Pair → Said → Operation → Ask Request
+request_of schema pairs said GetCapabilities = capabilities_of said
+request_of schema pairs said DescribeFeatureType = types_of schema said
+request_of schema pairs said GetPropertyValue = values_of schema pairs said
+request_of schema pairs said GetFeature = features_of schema pairs said
+request_of schema pairs said GetFeatureWithLock = locked_of schema pairs said
+request_of schema pairs said LockFeature = lock_asked schema pairs said
+request_of schema pairs said Transaction = Err (refused 9 (name_of Transaction))
+request_of schema pairs said ListStoredQueries = Ok ListStored
+request_of schema pairs said DescribeStoredQueries = described_of said
+request_of schema pairs said CreateStoredQuery = Err (refused 9 (name_of CreateStoredQuery))
+request_of schema pairs said DropStoredQuery = drop_of said
 
--- the request for the features of a query, with the links to its other pages
-unfoldable pub features_asked : List ℕ → Schema → Page → Query → Request
-features_asked query schema page found =
-    let link = link_of schema.address (pairs_of query) in
-    GetFeatures (record { start = page.start; count = page.count; hits = page.hits; link = Some link }) (Plain found ∷ [])
-
-unfoldable pub features_of : List ℕ → Schema → List Pair → Ask Request
-features_of query schema given = do
-  page ← page_of given
-  found ← query_of schema given
-  Ok (features_asked query schema page found)
+-- the request of pairs, of which these have listed names
+unfoldable pub judged : Schema → List Pair → Said → Ask Request
+judged schema pairs said = do
+  operation ← base_of said
+  request_of schema pairs said operation
 
 -- the request that a query asks
 unfoldable pub asked_of : List ℕ → Schema → Ask Request
 asked_of query schema = do
-  given ← given_of (pairs_of query)
-  _ ← base_of given
-  features_of query schema given
+  listed ← listed_of (pairs_of query)
+  judged schema (pairs_of query) (said_by listed)

@@ -1,10 +1,10 @@
 -- Which features a query asks for (OGC 09-025r2, section 7.9.2). One of three parameters may choose among the features of a type:
 -- resourceId, a list of identifiers; filter, a document of the Filter Encoding; and bbox, a box. Each is judged by its own rule
 -- before it is asked whether there are several.
-use Rattle.std.specs.Prelude.{ℕ, Bool, true, ◌&&◌, ◌||◌, ◌==◌, if◌then◌else◌, List, [], ◌∷◌, map, Option, Some, None, option_map, is_some, Result, Ok, Err, codes}
+use Rattle.std.specs.Prelude.{ℕ, Bool, true, ◌&&◌, ◌||◌, if◌then◌else◌, List, [], ◌∷◌, map, Option, Some, None, option_map, is_some, Result, Ok, Err, codes}
 use Rattle.std.specs.Option.{option_and_then}
 use Rattle.std.specs.Result.{result_ok}
-use Rattle.std.specs.List.{list_any, slice_split, join_with_byte}
+use Rattle.std.specs.List.{list_any, join_with_byte}
 use Rattle.wfs_ends.specs.Read.{◌>>=◌, unless}
 use Rattle.doc_tree.specs.declared.tree.Element.{Element}
 use Rattle.doc_read.specs.Document.{document}
@@ -12,50 +12,39 @@ use Rattle.doc_read.specs.declared.fault.DocFault.{DocFault}
 use Rattle.geom_core.specs.Plane.{Point, Bounds}
 use Rattle.geom_core.specs.Shapes.{box_of}
 use Rattle.gml_docs.specs.Numbers.{position_of_words}
-use Rattle.feature_values.specs.Ids.{type_named, without_prefix, rid_of}
+use Rattle.feature_values.specs.Ids.{rid_of}
 use Rattle.feature_values.specs.declared.feature.Rid.{Rid}
 use Rattle.feature_values.specs.declared.schema.Schema.{Schema}
 use Rattle.fes_filter.specs.declared.filter.Filter.{Filter}
 use Rattle.fes_filter.specs.declared.filter.Filter.TheVariants.{Ids, InBox}
 use Rattle.fes_filter.specs.declared.ids.IdRef.{IdRef}
 use Rattle.fes_filter.specs.declared.ids.IdRef.TheVariants.{Known, Nobody}
-use Rattle.fes_docs.specs.Names.{refusal_of}
 use Rattle.fes_docs.specs.Filters.{filter_of}
-use Rattle.fes_docs.specs.declared.fault.FilterDocFault.{FilterDocFault}
 use Rattle.wfs_model.specs.Terms.{refused, is_listed}
-use Rattle.wfs_model.specs.declared.fault.AskFault.{AskFault}
-use Rattle.kvp_queries.specs.Pairs.{Pair, value_of}
-use Rattle.kvp_queries.specs.Judging.{Ask, or_fault, allowed}
+use Rattle.request_terms.specs.Said.{Said, Ask, or_fault, kind_of}
+use Rattle.query_docs.specs.Elements.{or_refusal}
+use Rattle.kvp_queries.specs.Pairs.{or_else}
+use Rattle.kvp_queries.specs.Lists.{is_comma, items_in}
 
-abbrev pub is_comma : ℕ → Bool
-is_comma b = b == 44
-
--- ---- the type, and the reference system
-
-abbrev pub first_of : {A : Type 0} → Option A → Option A → Option A
-first_of None other = other
-first_of (Some x) other = Some x
+-- ---- the type
 
 -- the names of types, under either spelling
-unfoldable pub type_names_of : List Pair → Option (List ℕ)
-type_names_of given = first_of (value_of (codes "typeNames") given) (value_of (codes "typeName") given)
+unfoldable pub type_names_of : Said → Option (List ℕ)
+type_names_of said = or_else (said (codes "typeNames")) (said (codes "typeName"))
 
--- the type of a name; a list of names is no option of this service
-unfoldable pub type_of : Schema → List ℕ → Ask ℕ
-type_of schema text = do
+-- the one type of a name; a list of names is no option of this service
+unfoldable pub one_type : Schema → List ℕ → Ask ℕ
+one_type schema text = do
   _ ← unless (list_any is_comma text) (refused 12 (codes "typeNames"))
-  or_fault (type_named schema (without_prefix text)) (refused 11 (codes "typeNames"))
+  kind_of schema (codes "typeNames") text
 
-abbrev pub kind_in : Schema → Option (List ℕ) → Ask (Option ℕ)
-kind_in schema None = Ok None
-kind_in schema (Some text) = type_of schema text >>= λ kind. Ok (Some kind)
+abbrev pub type_if : Schema → Option (List ℕ) → Ask (Option ℕ)
+type_if schema None = Ok None
+type_if schema (Some text) = one_type schema text >>= λ kind. Ok (Some kind)
 
 -- the type asked for, where one is
-unfoldable pub kind_of : Schema → List Pair → Ask (Option ℕ)
-kind_of schema given = kind_in schema (type_names_of given)
-
-unfoldable pub srs_of : Schema → List Pair → Ask (Unit {0})
-srs_of schema given = allowed (is_listed schema.srs) (refused 11 (codes "srsName")) (value_of (codes "srsName") given)
+unfoldable pub type_of : Schema → Said → Ask (Option ℕ)
+type_of schema said = type_if schema (type_names_of said)
 
 -- ---- resourceId
 
@@ -67,13 +56,13 @@ known_or_nobody (Some id) = Known id
 unfoldable pub id_of : Schema → List ℕ → IdRef
 id_of schema text = known_or_nobody (rid_of schema text)
 
--- the resource ids of a list with commas between them (OGC 06-121r9, section 11.5.3)
+-- the resource ids of a list
 unfoldable pub ids_in : Schema → List ℕ → List IdRef
-ids_in schema text = map (id_of schema) (slice_split is_comma text)
+ids_in schema text = map (id_of schema) (items_in text)
 
 -- the filter that resource ids stand for
-unfoldable pub ids_filter : Schema → List Pair → Option Filter
-ids_filter schema given = option_map (λ text. Ids (ids_in schema text)) (value_of (codes "resourceId") given)
+unfoldable pub ids_filter : Schema → Said → Option Filter
+ids_filter schema said = option_map (λ text. Ids (ids_in schema text)) (said (codes "resourceId"))
 
 -- ---- filter (OGC 09-026r2, section 7)
 
@@ -81,26 +70,18 @@ abbrev pub or_no_document : Result Element DocFault → Ask Element
 or_no_document (Ok root) = Ok root
 or_no_document (Err fault) = Err (refused 8 (codes "filter"))
 
--- the refusal that a fault of a filter is
-abbrev pub refusal_by : FilterDocFault → AskFault
-refusal_by fault = let at = refusal_of fault in refused at.0 at.1
-
-abbrev pub or_refusal : Result Filter FilterDocFault → Ask Filter
-or_refusal (Ok filter) = Ok filter
-or_refusal (Err fault) = Err (refusal_by fault)
-
 -- the filter of a document, for a type or for none
 unfoldable pub filter_in : Schema → Option ℕ → List ℕ → Ask Filter
 filter_in schema kind text = do
   root ← or_no_document (document text)
   or_refusal (filter_of None schema kind root)
 
-abbrev pub filter_at : Schema → Option ℕ → Option (List ℕ) → Ask (Option Filter)
-filter_at schema kind None = Ok None
-filter_at schema kind (Some text) = filter_in schema kind text >>= λ filter. Ok (Some filter)
+abbrev pub filter_if : Schema → Option ℕ → Option (List ℕ) → Ask (Option Filter)
+filter_if schema kind None = Ok None
+filter_if schema kind (Some text) = filter_in schema kind text >>= λ filter. Ok (Some filter)
 
-unfoldable pub document_filter : Schema → Option ℕ → List Pair → Ask (Option Filter)
-document_filter schema kind given = filter_at schema kind (value_of (codes "filter") given)
+unfoldable pub document_filter : Schema → Option ℕ → Said → Ask (Option Filter)
+document_filter schema kind said = filter_if schema kind (said (codes "filter"))
 
 -- ---- bbox (OGC 06-121r9, section 10.2.3)
 
@@ -126,15 +107,15 @@ box_of_parts schema parts = None
 
 -- the box of a text
 unfoldable pub box_in : Schema → List ℕ → Option Bounds
-box_in schema text = box_of_parts schema (slice_split is_comma text)
+box_in schema text = box_of_parts schema (items_in text)
 
-abbrev pub box_at : Schema → Option (List ℕ) → Ask (Option Filter)
-box_at schema None = Ok None
-box_at schema (Some text) = or_fault (box_in schema text) (refused 11 (codes "bbox")) >>= λ area. Ok (Some (InBox None area))
+abbrev pub box_if : Schema → Option (List ℕ) → Ask (Option Filter)
+box_if schema None = Ok None
+box_if schema (Some text) = or_fault (box_in schema text) (refused 11 (codes "bbox")) >>= λ area. Ok (Some (InBox None area))
 
 -- the filter that a box stands for: some geometry property of a feature meets it
-unfoldable pub box_filter : Schema → List Pair → Ask (Option Filter)
-box_filter schema given = box_at schema (value_of (codes "bbox") given)
+unfoldable pub box_filter : Schema → Said → Ask (Option Filter)
+box_filter schema said = box_if schema (said (codes "bbox"))
 
 -- ---- one of them
 
@@ -146,11 +127,11 @@ alone ids filter area = do
 
 -- the one filter that is given, where one is
 unfoldable pub only_one : Option Filter → Option Filter → Option Filter → Ask (Option Filter)
-only_one ids filter area = alone (is_some ids) (is_some filter) (is_some area) >>= λ _. Ok (first_of ids (first_of filter area))
+only_one ids filter area = alone (is_some ids) (is_some filter) (is_some area) >>= λ _. Ok (or_else ids (or_else filter area))
 
 -- what features are chosen by
-unfoldable pub chosen : Schema → Option ℕ → List Pair → Ask (Option Filter)
-chosen schema kind given = do
-  filter ← document_filter schema kind given
-  area ← box_filter schema given
-  only_one (ids_filter schema given) filter area
+unfoldable pub chosen : Schema → Option ℕ → Said → Ask (Option Filter)
+chosen schema kind said = do
+  filter ← document_filter schema kind said
+  area ← box_filter schema said
+  only_one (ids_filter schema said) filter area

@@ -2,12 +2,14 @@
 //! wrong with it.
 #![tactic(auto)]
 
+mod asking;
+mod describing;
 mod features;
 mod link;
 mod lists;
+mod locks;
 mod names;
 mod pairs;
-mod presenting;
 mod request;
 mod selecting;
 mod sorting;

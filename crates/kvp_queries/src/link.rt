@@ -1,15 +1,13 @@
 //! The beginning of the links to other pages.
 
 ghost use Rattle.std.specs.Prelude.{◌≡◌, ◌++◌, [], ◌∷◌, IfOk, OnOk, filter, codes, string_bytes};
-ghost use Rattle.std.specs.Cow.{cow_str_bytes};
 ghost use Rattle.form_urlencoded.specs.Form.{extend_pairs};
-ghost use Rattle.kvp_queries.specs.Pairs.{stays, pairs_of, link_of};
+ghost use Rattle.kvp_queries.specs.Pairs.{stays, link_of};
 
 use crate::names::is_same;
-use form_urlencoded::{Serializer, parse};
+use form_urlencoded::Serializer;
 use std::alloc::Global;
-use std::borrow::CowStr;
-use wfs_ends::{Mem, OutOfMemory, Text};
+use wfs_ends::{Mem, Text};
 
 // A serializer behind a text.
 fn after(text: String) -> Serializer<Global>
@@ -37,26 +35,23 @@ fn stays(name: &str) -> bool
 }
 
 // Writes a pair, if it stays.
-fn add_pair(form: &mut Serializer<Global>, name: CowStr<'_>, value: CowStr<'_>) -> Mem<()>
-    ensures { OnOk result (form.new ≡ record form.old { form = extend_pairs form.old.form (filter (λ p. stays p.0) ((cow_str_bytes name.entry, cow_str_bytes value.entry) ∷ [])) }) }
+fn add_pair(form: &mut Serializer<Global>, name: &str, value: &str) -> Mem<()>
+    ensures { OnOk result (form.new ≡ record form.old { form = extend_pairs form.old.form (filter (λ p. stays p.0) ((name.now, value.now) ∷ [])) }) }
 {
-    if stays(name.as_str()) {
-        form.append_pair(name.as_str(), value.as_str())?;
+    if stays(name) {
+        form.append_pair(name, value)?;
     }
     Ok(())
 }
 
-// The beginning of the links to other pages, for a request that came as this query (OGC 09-025r2, section 7.7.4.4).
-#[tactic(auto, unfolding(crate::specs::Pairs::link_of, crate::specs::Pairs::pairs_of))]
-pub(crate) fn link_of(alloc: Global, address: &str, query: &[u8]) -> Mem<Text>
-    ensures { IfOk result (λ text. text ≡ link_of address.now (pairs_of query.now)) }
+// The beginning of the links to other pages, for a request that came as these pairs (OGC 09-025r2, section 7.7.4.4).
+#[tactic(auto, unfolding(crate::specs::Pairs::link_of))]
+pub(crate) fn link_of(alloc: Global, address: &str, pairs: &[(Text, Text)]) -> Mem<Text>
+    ensures { IfOk result (λ text. text ≡ link_of address.now pairs.now) }
 {
     let mut form = after(beginning(alloc, address)?);
-    for pair in parse(alloc, query) {
-        let Ok((name, value)) = pair else {
-            return Err(OutOfMemory);
-        };
-        add_pair(&mut form, name, value)?;
+    for pair in pairs {
+        add_pair(&mut form, pair.0.as_str(), pair.1.as_str())?;
     }
     Text::of_string(form.finish())
 }

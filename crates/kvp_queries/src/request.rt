@@ -1,150 +1,124 @@
 //! The request of a query of pairs.
 
-ghost use Rattle.std.specs.Prelude.{◌≡◌, [], ◌∷◌, IfOk};
+ghost use Rattle.std.specs.Prelude.{◌≡◌, IfOk};
 ghost use Rattle.wfs_ends.specs.Read.{GivesBut};
-ghost use Rattle.wfs_machine.specs.Step.{IsOfTypes};
-ghost use Rattle.wfs_model.specs.declared.fault.AskFault.TheVariants.{OutOfMemory};
-ghost use Rattle.kvp_queries.specs.Request.{service_of, is_other_operation, operation_of, version_of, base_of, features_asked, features_of, asked_of};
+ghost use Rattle.wfs_model.specs.OfSchema.{IsOfSchema};
+ghost use Rattle.kvp_queries.specs.Pairs.{said_by};
+ghost use Rattle.kvp_queries.specs.Request.{version_for, base_of, request_of, judged, asked_of};
 
-use crate::features::query_of;
-use crate::link::link_of;
-use crate::pairs::{given_of, value_of};
-use crate::presenting::{Page, page_of};
+use crate::describing::{capabilities_of, described_of, drop_of, types_of};
+use crate::features::{features_of, values_of};
+use crate::locks::{lock_asked, locked_of};
+use crate::pairs::{Listed, listed_of, pairs_of};
 use feature_values::Schema;
-use fes_filter::Query;
+use request_terms::{Operation, queried_of, service_of, version_of};
 use std::alloc::Global;
-use wfs_ends::{List, Mem, Text};
-use wfs_model::{AskFault, Asked, Present, Request, is_version, refused};
+use wfs_ends::{List, Text};
+use wfs_model::{AskFault, Request, refused};
 
-// The service.
-#[tactic(auto, unfolding(crate::specs::Request::service_of, wfs_ends::specs::Read::unless))]
-fn service_of(alloc: Global, given: &[(Text, Text)]) -> Result<(), AskFault>
-    ensures { GivesBut OutOfMemory (λ _. tt) result (service_of given.now) }
+// The version, which GetCapabilities agrees on by itself.
+fn version_for(alloc: Global, operation: Operation, listed: &Listed) -> Result<(), AskFault>
+    ensures { GivesBut AskFault.OutOfMemory (λ x. x) result (version_for operation (said_by listed.now.pairs)) }
 {
-    let Some(text) = value_of(given, "service") else {
-        return Err(refused(alloc, 10, "service"));
-    };
-    if text != "WFS" {
-        return Err(refused(alloc, 11, "service"));
+    match operation {
+        Operation::GetCapabilities => Ok(()),
+        _ => version_of(alloc, listed),
     }
-    Ok(())
-}
-
-// Whether this is an operation that may be asked for as a query, other than GetFeature.
-#[tactic(auto, unfolding(crate::specs::Request::is_other_operation))]
-fn is_other_operation(name: &str) -> bool
-    ensures { result ≡ is_other_operation name.now }
-{
-    name == "GetCapabilities"
-        || name == "DescribeFeatureType"
-        || name == "GetPropertyValue"
-        || name == "GetFeatureWithLock"
-        || name == "LockFeature"
-        || name == "ListStoredQueries"
-        || name == "DescribeStoredQueries"
-        || name == "DropStoredQuery"
-}
-
-// The operation.
-#[tactic(auto, unfolding(crate::specs::Request::operation_of, wfs_ends::specs::Read::unless))]
-fn operation_of(alloc: Global, given: &[(Text, Text)]) -> Result<(), AskFault>
-    ensures { GivesBut OutOfMemory (λ _. tt) result (operation_of given.now) }
-{
-    let Some(name) = value_of(given, "request") else {
-        return Err(refused(alloc, 10, "request"));
-    };
-    if is_other_operation(name) {
-        return Err(refused(alloc, 99, "stage"));
-    }
-    if name != "GetFeature" {
-        return Err(refused(alloc, 9, name));
-    }
-    Ok(())
-}
-
-// The version.
-#[tactic(auto, unfolding(crate::specs::Request::version_of, wfs_ends::specs::Read::unless))]
-fn version_of(alloc: Global, given: &[(Text, Text)]) -> Result<(), AskFault>
-    ensures { GivesBut OutOfMemory (λ _. tt) result (version_of given.now) }
-{
-    let Some(text) = value_of(given, "version") else {
-        return Ok(());
-    };
-    if !is_version(text) {
-        return Err(refused(alloc, 11, "version"));
-    }
-    Ok(())
-}
-
-fn one(alloc: Global, asked: Asked) -> Mem<List<Asked>>
-    ensures { IfOk result (λ all. all ≡ asked ∷ []) }
-{
-    let mut all = Vec::with_capacity(alloc, 1)?;
-    all.push(asked)?;
-    Ok(List::of(all))
 }
 
 // The service, the operation and the version.
 #[tactic(auto, unfolding(crate::specs::Request::base_of))]
-fn base_of(alloc: Global, given: &[(Text, Text)]) -> Result<(), AskFault>
-    ensures { GivesBut OutOfMemory (λ _. tt) result (base_of given.now) }
+fn base_of(alloc: Global, listed: &Listed) -> Result<Operation, AskFault>
+    ensures { GivesBut AskFault.OutOfMemory (λ x. x) result (base_of (said_by listed.now.pairs)) }
 {
-    service_of(alloc, given)?;
-    operation_of(alloc, given)?;
-    version_of(alloc, given)
+    service_of(alloc, listed)?;
+    let operation = queried_of(alloc, listed)?;
+    version_for(alloc, operation, listed)?;
+    Ok(operation)
 }
 
-// The request for the features of a query, with the links to its other pages.
-#[tactic(auto, unfolding(crate::specs::Request::features_asked))]
-fn features_asked(
+// The request of an operation.
+#[tactic(auto, unfolding(crate::specs::Request::request_of))]
+fn request_of(
     alloc: Global,
-    query: &str,
     schema: &Schema,
-    page: Page,
-    found: Query,
-) -> Mem<Request>
-    ensures request { IfOk result (λ r. r ≡ features_asked query.now schema.now page found) }
-    ensures types { IfOk result (λ r. IsOfTypes schema.now r) }
-{
-    let asked = one(alloc, Asked::Plain(found))?;
-    let link = link_of(alloc, schema.address.as_str(), query.as_bytes())?;
-    let present = Present {
-        start: page.start,
-        count: page.count,
-        hits: page.hits,
-        link: Some(link),
-    };
-    Ok(Request::GetFeatures(present, asked))
-}
-
-#[tactic(auto, unfolding(crate::specs::Request::features_of))]
-fn features_of(
-    alloc: Global,
-    query: &str,
-    schema: &Schema,
-    given: &[(Text, Text)],
+    pairs: &[(Text, Text)],
+    listed: &Listed,
+    operation: Operation,
 ) -> Result<Request, AskFault>
-    ensures read { GivesBut OutOfMemory (λ r. r) result (features_of query.now schema.now given.now) }
-    ensures types { IfOk result (λ r. IsOfTypes schema.now r) }
+    ensures { GivesBut AskFault.OutOfMemory (λ r. r) result (request_of schema.now pairs.now (said_by listed.now.pairs) operation) }
 {
-    let page = page_of(alloc, given)?;
-    let found = query_of(alloc, schema, given)?;
-    let request = features_asked(alloc, query, schema, page, found)?;
-    Ok(request)
+    match operation {
+        Operation::GetCapabilities => capabilities_of(alloc, listed),
+        Operation::DescribeFeatureType => types_of(alloc, schema, listed),
+        Operation::GetPropertyValue => values_of(alloc, schema, pairs, listed),
+        Operation::GetFeature => features_of(alloc, schema, pairs, listed),
+        Operation::GetFeatureWithLock => locked_of(alloc, schema, pairs, listed),
+        Operation::LockFeature => lock_asked(alloc, schema, pairs, listed),
+        Operation::ListStoredQueries => Ok(Request::ListStored),
+        Operation::DescribeStoredQueries => described_of(alloc, listed),
+        Operation::DropStoredQuery => drop_of(alloc, listed),
+        Operation::Transaction | Operation::CreateStoredQuery => {
+            Err(refused(alloc, 9, operation.name()))
+        }
+    }
+}
+
+// The request of pairs, of which these have listed names.
+#[tactic(auto, unfolding(crate::specs::Request::judged))]
+fn judged(
+    alloc: Global,
+    schema: &Schema,
+    pairs: &[(Text, Text)],
+    listed: &Listed,
+) -> Result<Request, AskFault>
+    ensures { GivesBut AskFault.OutOfMemory (λ r. r) result (judged schema.now pairs.now (said_by listed.now.pairs)) }
+{
+    let operation = base_of(alloc, listed)?;
+    request_of(alloc, schema, pairs, listed, operation)
+}
+
+// The request that a query asks.
+#[tactic(auto, unfolding(crate::specs::Request::asked_of))]
+fn asked_of(alloc: Global, query: &str, schema: &Schema) -> Result<Request, AskFault>
+    ensures { GivesBut AskFault.OutOfMemory (λ r. r) result (asked_of query.now schema.now) }
+{
+    let pairs = pairs_of(alloc, query.as_bytes())?;
+    let listed = Listed {
+        pairs: List::of(listed_of(alloc, &pairs)?),
+    };
+    judged(alloc, schema, &pairs, &listed)
 }
 
 /// Reads a request that came as a query of key-value pairs (OGC 09-025r2, section 6.2.5): what stands behind the `?` of the request's
-/// target, with its escapes. GetFeature is read, without `storedQuery_id`.
+/// target, with its escapes.
 ///
-/// Names count without their case, values with it, and a pair whose name or value is empty counts as not there. Names that the
-/// operation does not list are ignored. The first of these refusals is answered, by its row of the table of refusals (docs/FORMATS.md) and
-/// with the name as it is listed: a name comes twice that some operation lists (8), in the query's order, where `typeName`
-/// and `typeNames` of one value count as one; no `service` (10), or another than `WFS` (11); no `request` (10), or one that is no
-/// operation or none that may come as a query (9, with the operation); a `version` other than `2.0.0` and `2.0.2` (11); and then, in
-/// this order:
+/// Names count without their case, values with it, and a pair whose name or value is empty counts as not there. The first of these
+/// refusals is answered, by its row of the table of refusals (docs/FORMATS.md) and with the name as it is listed: a name comes twice
+/// that some operation lists (8), in the query's order, where `typeName` and `typeNames` of one value count as one; no `service` (10),
+/// or another than `WFS` (11); no `request` (10), or one that is no operation or none that may come as a query (9, with the
+/// operation); a `version` other than `2.0.0` and `2.0.2` (11), which GetCapabilities does not look at; and then the operation's
+/// parameters, in the order in which they stand here, and at the end what is missing (10). Names that the operation does not list are
+/// ignored, or are parameters of a stored query.
 ///
-/// - a `count` or `startIndex` that is no number from 0 to 4,294,967,295, a `resultType` other than `results` and `hits`, and an
-///   `outputFormat` other than GML 3.2 (11 each); a `resolve` other than `none` (12);
+/// - GetCapabilities: `acceptVersions`, a list of which one has to be the service's (13).
+/// - DescribeFeatureType: `typeNames`, a list of types (11), and `outputFormat` (11). None stands for all types.
+/// - GetFeature: how features are presented, and which are asked for.
+/// - GetPropertyValue: the same, and `valueReference` (required), which is looked up last: a name that the type does not have is row 11
+///   with the name as given, and without a type row 11 with `valueReference`. Beside a stored query it is kept among the parameters.
+/// - GetFeatureWithLock: the same as GetFeature, where a `resultType` of `hits` is row 11; `expiry`, 1 to 4,294,967,295 seconds or 300;
+///   and `lockAction`, `ALL` or `SOME` (11 each).
+/// - LockFeature: `lockId` (15), `expiry`, `lockAction`, and which features are asked for, or nothing of that beside `lockId` (11 with
+///   `lockId`).
+/// - DescribeStoredQueries: `storedQuery_id`, a list. DropStoredQuery: `storedQuery_id` (required), which is not the built-in one (12).
+///
+/// How features are presented: a `count` or `startIndex` that is no number from 0 to 4,294,967,295, a `resultType` other than `results`
+/// and `hits`, and an `outputFormat` other than GML 3.2 (11 each); a `resolve` other than `none` (12).
+///
+/// Which features are asked for:
+///
+/// - `storedQuery_id`, beside which the names that the operation does not list are parameters, in order and as given; the others are
+///   judged all the same and ask for nothing;
 /// - more than one type (12) or one that the schema does not have (11, both with `typeNames`); an `srsName` that the schema does not
 ///   have (11);
 /// - a `filter` that is no document (8), or what `fes_docs::read_filter` says of it for the type, or for no type;
@@ -155,17 +129,13 @@ fn features_of(
 /// - a `sortBy` without a type (11); one that is no list, with commas between them, of properties of the type, each with `ASC` or
 ///   `DESC` behind a space or nothing (OGC 09-026r2, section 7.12): a name that the type does not have (11, with the name as given), and a
 ///   geometry or another word (11, with `sortBy`);
-/// - a `propertyName` other than `*` (12); and neither `typeNames` nor `resourceId` (10, with `typeNames`).
-///
-/// Row 99 stands at the place of what is not built yet.
+/// - a `propertyName` other than `*` (12);
+/// - and `typeNames` is missing where neither `resourceId` nor `storedQuery_id` is there.
 ///
 /// `OutOfMemory`: there is no memory for the request or the refusal.
-#[tactic(auto, unfolding(crate::specs::Request::asked_of))]
 pub fn read_query(alloc: Global, query: &str, schema: &Schema) -> Result<Request, AskFault>
-    ensures read { GivesBut OutOfMemory (λ r. r) result (asked_of query.now schema.now) }
-    ensures types { IfOk result (λ r. IsOfTypes schema.now r) }
+    ensures read { GivesBut AskFault.OutOfMemory (λ r. r) result (asked_of query.now schema.now) }
+    ensures of_schema { IfOk result (λ r. IsOfSchema schema.now r) }
 {
-    let given = given_of(alloc, query.as_bytes())?;
-    base_of(alloc, &given)?;
-    features_of(alloc, query, schema, &given)
+    asked_of(alloc, query, schema)
 }

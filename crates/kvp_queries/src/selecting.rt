@@ -1,14 +1,16 @@
 //! Which features a query selects: by filter, by box, by identifier.
 
 ghost use Rattle.std.specs.Prelude.{◌≡◌, IfOk, None};
+ghost use Rattle.std.specs.Option.{option_copied};
 ghost use Rattle.wfs_ends.specs.Read.{GivesBut};
 ghost use Rattle.doc_read.specs.Document.{document};
 ghost use Rattle.fes_docs.specs.Filters.{filter_of};
-ghost use Rattle.wfs_model.specs.declared.fault.AskFault.TheVariants.{OutOfMemory};
-ghost use Rattle.kvp_queries.specs.Selection.{id_of, ids_in, ids_filter, or_no_document, refusal_by, or_refusal, filter_in, document_filter, corner_at, box_between, box_in, box_filter, alone, first_of, only_one, chosen};
+ghost use Rattle.query_docs.specs.Elements.{refusal_by, or_refusal};
+ghost use Rattle.kvp_queries.specs.Pairs.{or_else, said_by};
+ghost use Rattle.kvp_queries.specs.Selection.{type_names_of, one_type, type_of, id_of, ids_in, ids_filter, or_no_document, filter_in, document_filter, corner_at, box_between, box_in, box_filter, alone, only_one, chosen};
 
-use crate::lists::cut;
-use crate::pairs::value_of;
+use crate::lists::{cut, has_comma};
+use crate::pairs::Listed;
 use doc_read::{DocFault, read_document};
 use doc_tree::Element;
 use feature_values::{Schema, read_rid};
@@ -16,9 +18,50 @@ use fes_docs::{FilterDocFault, read_filter};
 use fes_filter::{Filter, IdRef};
 use geom_core::{Box2, Pos};
 use gml_docs::read_position;
+use request_terms::{Given, kind_of};
 use std::alloc::Global;
 use wfs_ends::{List, Mem, Text};
 use wfs_model::{AskFault, is_listed, refused};
+
+// ---- the type
+
+// The names of types, under either spelling.
+#[tactic(auto, unfolding(crate::specs::Selection::type_names_of))]
+pub(crate) fn type_names_of(listed: &Listed) -> Option<&Text>
+    ensures { option_copied result ≡ type_names_of (said_by listed.now.pairs) }
+{
+    match listed.value_of("typeNames") {
+        Some(text) => Some(text),
+        None => listed.value_of("typeName"),
+    }
+}
+
+// The one type of a name.
+#[tactic(auto, unfolding(crate::specs::Selection::one_type, wfs_ends::specs::Read::unless))]
+fn one_type(alloc: Global, schema: &Schema, text: &str) -> Result<u32, AskFault>
+    ensures { GivesBut AskFault.OutOfMemory (λ k. k) result (one_type schema.now text.now) }
+{
+    if has_comma(text) {
+        return Err(refused(alloc, 12, "typeNames"));
+    }
+    kind_of(alloc, schema, "typeNames", text)
+}
+
+// The type asked for, where one is.
+#[tactic(auto, unfolding(crate::specs::Selection::type_of))]
+pub(crate) fn type_of(
+    alloc: Global,
+    schema: &Schema,
+    listed: &Listed,
+) -> Result<Option<u32>, AskFault>
+    ensures { GivesBut AskFault.OutOfMemory (λ k. k) result (type_of schema.now (said_by listed.now.pairs)) }
+{
+    let Some(text) = type_names_of(listed) else {
+        return Ok(None);
+    };
+    let kind = one_type(alloc, schema, text.as_str())?;
+    Ok(Some(kind))
+}
 
 // ---- resourceId
 
@@ -50,13 +93,13 @@ fn ids_in(alloc: Global, schema: &Schema, text: &str) -> Mem<List<IdRef>>
 
 // The filter that resource ids stand for, where there are any.
 #[tactic(auto, unfolding(crate::specs::Selection::ids_filter))]
-fn ids_filter(alloc: Global, schema: &Schema, given: &[(Text, Text)]) -> Mem<Option<Filter>>
-    ensures { IfOk result (λ filter. filter ≡ ids_filter schema.now given.now) }
+fn ids_filter(alloc: Global, schema: &Schema, listed: &Listed) -> Mem<Option<Filter>>
+    ensures { IfOk result (λ filter. filter ≡ ids_filter schema.now (said_by listed.now.pairs)) }
 {
-    let Some(text) = value_of(given, "resourceId") else {
+    let Some(text) = listed.value_of("resourceId") else {
         return Ok(None);
     };
-    let ids = ids_in(alloc, schema, text)?;
+    let ids = ids_in(alloc, schema, text.as_str())?;
     Ok(Some(Filter::Ids(ids)))
 }
 
@@ -64,7 +107,7 @@ fn ids_filter(alloc: Global, schema: &Schema, given: &[(Text, Text)]) -> Mem<Opt
 
 // The document of a text.
 fn document_in(alloc: Global, text: &str) -> Result<Element, AskFault>
-    ensures { GivesBut OutOfMemory (λ e. e) result (or_no_document (document text.now)) }
+    ensures { GivesBut AskFault.OutOfMemory (λ e. e) result (or_no_document (document text.now)) }
 {
     match read_document(alloc, text.as_bytes()) {
         Ok(root) => Ok(root),
@@ -74,8 +117,9 @@ fn document_in(alloc: Global, text: &str) -> Result<Element, AskFault>
 }
 
 // The refusal that a fault of a filter is.
+#[tactic(auto, unfolding(query_docs::specs::Elements::refusal_by))]
 fn refusal_by(alloc: Global, fault: &FilterDocFault) -> AskFault
-    ensures { (result ≡ OutOfMemory → ⊥) → result ≡ refusal_by fault.now }
+    ensures { (result ≡ AskFault.OutOfMemory → ⊥) → result ≡ refusal_by fault.now }
 {
     let (row, locator) = fault.refusal();
     refused(alloc, row, locator)
@@ -88,7 +132,7 @@ fn filter_of(
     kind: Option<u32>,
     root: &Element,
 ) -> Result<Filter, AskFault>
-    ensures { GivesBut OutOfMemory (λ f. f) result (or_refusal (filter_of None schema.now kind root.now)) }
+    ensures { GivesBut AskFault.OutOfMemory (λ f. f) result (or_refusal (filter_of None schema.now kind root.now)) }
 {
     match read_filter(alloc, root, kind, schema) {
         Ok(filter) => Ok(filter),
@@ -105,7 +149,7 @@ fn filter_in(
     kind: Option<u32>,
     text: &str,
 ) -> Result<Filter, AskFault>
-    ensures { GivesBut OutOfMemory (λ f. f) result (filter_in schema.now kind text.now) }
+    ensures { GivesBut AskFault.OutOfMemory (λ f. f) result (filter_in schema.now kind text.now) }
 {
     let root = document_in(alloc, text)?;
     filter_of(alloc, schema, kind, &root)
@@ -117,14 +161,14 @@ fn document_filter(
     alloc: Global,
     schema: &Schema,
     kind: Option<u32>,
-    given: &[(Text, Text)],
+    listed: &Listed,
 ) -> Result<Option<Filter>, AskFault>
-    ensures { GivesBut OutOfMemory (λ f. f) result (document_filter schema.now kind given.now) }
+    ensures { GivesBut AskFault.OutOfMemory (λ f. f) result (document_filter schema.now kind (said_by listed.now.pairs)) }
 {
-    let Some(text) = value_of(given, "filter") else {
+    let Some(text) = listed.value_of("filter") else {
         return Ok(None);
     };
-    let filter = filter_in(alloc, schema, kind, text)?;
+    let filter = filter_in(alloc, schema, kind, text.as_str())?;
     Ok(Some(filter))
 }
 
@@ -167,17 +211,13 @@ fn box_in(schema: &Schema, text: &str) -> Option<Box2>
 
 // The filter that a box stands for, where one is given.
 #[tactic(auto, unfolding(crate::specs::Selection::box_filter))]
-fn box_filter(
-    alloc: Global,
-    schema: &Schema,
-    given: &[(Text, Text)],
-) -> Result<Option<Filter>, AskFault>
-    ensures { GivesBut OutOfMemory (λ f. f) result (box_filter schema.now given.now) }
+fn box_filter(alloc: Global, schema: &Schema, listed: &Listed) -> Result<Option<Filter>, AskFault>
+    ensures { GivesBut AskFault.OutOfMemory (λ f. f) result (box_filter schema.now (said_by listed.now.pairs)) }
 {
-    let Some(text) = value_of(given, "bbox") else {
+    let Some(text) = listed.value_of("bbox") else {
         return Ok(None);
     };
-    let Some(area) = box_in(schema, text) else {
+    let Some(area) = box_in(schema, text.as_str()) else {
         return Err(refused(alloc, 11, "bbox"));
     };
     Ok(Some(Filter::InBox {
@@ -191,7 +231,7 @@ fn box_filter(
 // Refuses several of them, by the name of the last.
 #[tactic(auto, unfolding(crate::specs::Selection::alone, wfs_ends::specs::Read::unless))]
 fn alone(alloc: Global, ids: bool, filter: bool, area: bool) -> Result<(), AskFault>
-    ensures { GivesBut OutOfMemory (λ _. tt) result (alone ids filter area) }
+    ensures { GivesBut AskFault.OutOfMemory (λ _. tt) result (alone ids filter area) }
 {
     if area && (ids || filter) {
         return Err(refused(alloc, 11, "bbox"));
@@ -202,8 +242,8 @@ fn alone(alloc: Global, ids: bool, filter: bool, area: bool) -> Result<(), AskFa
     Ok(())
 }
 
-fn first_of(first: Option<Filter>, other: Option<Filter>) -> Option<Filter>
-    ensures { result ≡ first_of first other }
+fn or_else(first: Option<Filter>, other: Option<Filter>) -> Option<Filter>
+    ensures { result ≡ or_else first other }
 {
     match first {
         Some(filter) => Some(filter),
@@ -219,10 +259,10 @@ fn only_one(
     filter: Option<Filter>,
     area: Option<Filter>,
 ) -> Result<Option<Filter>, AskFault>
-    ensures { GivesBut OutOfMemory (λ f. f) result (only_one ids filter area) }
+    ensures { GivesBut AskFault.OutOfMemory (λ f. f) result (only_one ids filter area) }
 {
     alone(alloc, ids.is_some(), filter.is_some(), area.is_some())?;
-    Ok(first_of(ids, first_of(filter, area)))
+    Ok(or_else(ids, or_else(filter, area)))
 }
 
 // What features are chosen by.
@@ -231,12 +271,12 @@ pub(crate) fn chosen(
     alloc: Global,
     schema: &Schema,
     kind: Option<u32>,
-    given: &[(Text, Text)],
+    listed: &Listed,
 ) -> Result<Option<Filter>, AskFault>
-    ensures { GivesBut OutOfMemory (λ f. f) result (chosen schema.now kind given.now) }
+    ensures { GivesBut AskFault.OutOfMemory (λ f. f) result (chosen schema.now kind (said_by listed.now.pairs)) }
 {
-    let filter = document_filter(alloc, schema, kind, given)?;
-    let area = box_filter(alloc, schema, given)?;
-    let ids = ids_filter(alloc, schema, given)?;
+    let filter = document_filter(alloc, schema, kind, listed)?;
+    let area = box_filter(alloc, schema, listed)?;
+    let ids = ids_filter(alloc, schema, listed)?;
     only_one(alloc, ids, filter, area)
 }

@@ -7,8 +7,9 @@ use fes_filter::{Filter, IdRef, Query, SortKey};
 use geom_core::{Box2, Pos};
 use std::alloc::Global;
 use wfs_ends::{List, Mem, Text};
-use wfs_model::{AskFault, Asked, Present, Request};
+use wfs_model::{AskFault, Asked, LockId, Present, Request, Take};
 
+mod operations;
 mod requests;
 mod selection;
 
@@ -156,23 +157,116 @@ fn add_present(line: &mut String, present: &Present) -> Mem<()> {
     Ok(())
 }
 
-fn asked_line(alloc: Global, present: &Present, asked: &[Asked]) -> Mem<String> {
-    let mut line = String::new(alloc);
-    for one in asked {
-        match one {
-            Asked::Plain(query) => add_query(&mut line, query)?,
-            Asked::Stored { .. } => line.push_str("stored")?,
-        }
+fn add_stored(line: &mut String, id: &Text, given: &[(Text, Text)]) -> Mem<()> {
+    let id = id.as_str();
+    write!(line, "stored {id}")?;
+    for pair in given {
+        let name = pair.0.as_str();
+        let value = pair.1.as_str();
+        write!(line, " {name}={value}")?;
     }
-    add_present(&mut line, present)?;
-    Ok(line)
+    Ok(())
+}
+
+fn add_asked(line: &mut String, asked: &Asked) -> Mem<()> {
+    match asked {
+        Asked::Plain(query) => add_query(line, query),
+        Asked::Stored { id, given } => add_stored(line, id, given.items()),
+    }
+}
+
+fn add_all_asked(line: &mut String, asked: &[Asked]) -> Mem<()> {
+    for one in asked {
+        add_asked(line, one)?;
+    }
+    Ok(())
+}
+
+fn add_take(line: &mut String, take: Take, period: u32) -> Mem<()> {
+    if take == Take::Free {
+        line.push_str(" free")?;
+    }
+    write!(line, " for {period}")?;
+    Ok(())
+}
+
+fn add_types(line: &mut String, kinds: &[u32]) -> Mem<()> {
+    line.push_str("types")?;
+    for kind in kinds {
+        write!(line, " {kind}")?;
+    }
+    Ok(())
+}
+
+fn add_texts(line: &mut String, texts: &[Text]) -> Mem<()> {
+    line.push_str("described")?;
+    for text in texts {
+        let text = text.as_str();
+        write!(line, " {text}")?;
+    }
+    Ok(())
+}
+
+fn add_renewed(line: &mut String, lock: LockId, period: Option<u32>) -> Mem<()> {
+    let number = lock.number;
+    write!(line, "renew {number}")?;
+    add_number(line, " for ", period)
+}
+
+fn add_locked(line: &mut String, present: &Present, asked: &[Asked]) -> Mem<()> {
+    add_all_asked(line, asked)?;
+    add_present(line, present)
+}
+
+fn add_values(line: &mut String, present: &Present, asked: &Asked, property: u32) -> Mem<()> {
+    add_asked(line, asked)?;
+    write!(line, " values {property}")?;
+    add_present(line, present)
+}
+
+fn add_dropped(line: &mut String, id: &Text) -> Mem<()> {
+    let id = id.as_str();
+    write!(line, "drop {id}")?;
+    Ok(())
+}
+
+fn add_new_lock(line: &mut String, asked: &[Asked], take: Take, period: u32) -> Mem<()> {
+    add_all_asked(line, asked)?;
+    add_take(line, take, period)
+}
+
+fn add_request(line: &mut String, request: &Request) -> Mem<()> {
+    match request {
+        Request::GetFeatures(present, asked) => add_locked(line, present, asked.items()),
+        Request::GetValues(present, asked, property) => add_values(line, present, asked, *property),
+        Request::GetLocked {
+            present,
+            asked,
+            take,
+            period,
+        } => {
+            add_locked(line, present, asked.items())?;
+            add_take(line, *take, *period)
+        }
+        Request::Lock {
+            asked,
+            take,
+            period,
+        } => add_new_lock(line, asked.items(), *take, *period),
+        Request::Renew { lock, period } => add_renewed(line, *lock, *period),
+        Request::DescribeTypes(kinds) => add_types(line, kinds.items()),
+        Request::DescribeStored(ids) => add_texts(line, ids.items()),
+        Request::DropStored(id) => add_dropped(line, id),
+        Request::Capabilities => Ok(line.push_str("capabilities")?),
+        Request::ListStored => Ok(line.push_str("stored list")?),
+        _ => Ok(line.push_str("another request")?),
+    }
 }
 
 fn request_line(alloc: Global, request: &Request) -> Mem<String> {
-    match request {
-        Request::GetFeatures(present, asked) => asked_line(alloc, present, asked.items()),
-        _ => Ok(String::from_str(alloc, "another request")?),
-    }
+    let mut line = String::new(alloc);
+    add_request(&mut line, request)?;
+    Ok(line)
 }
 
 fn fault_line(alloc: Global, fault: &AskFault) -> Mem<String> {

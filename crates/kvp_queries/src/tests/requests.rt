@@ -99,7 +99,7 @@ static ASKED: [(&str, &str); 32] = [
 ];
 
 // What is refused, whole.
-static REFUSED: [(&str, &str); 14] = [
+static REFUSED: [(&str, &str); 13] = [
     ("", "10 service"),
     ("request=Foo", "10 service"),
     ("service=&request=GetFeature&typeNames=Mark", "10 service"),
@@ -114,7 +114,6 @@ static REFUSED: [(&str, &str); 14] = [
         "service=WFS&request=CreateStoredQuery",
         "9 CreateStoredQuery",
     ),
-    ("service=WFS&request=GetCapabilities&version=9", "99 stage"),
     (
         "service=WFS&request=GetCapabilities&bbox=1&BBOX=2",
         "8 bbox",
@@ -152,7 +151,7 @@ static WRONG: [(&str, &str); 36] = [
         "11 outputFormat",
     ),
     ("typeNames=Nope&resolve=local", "12 resolve"),
-    ("storedQuery_id=x&typeNames=Nope", "99 stage"),
+    ("storedQuery_id=x&typeNames=Nope", "11 typeNames"),
     ("storedQuery_id=x&resolve=all", "12 resolve"),
     (
         "typeNames=Mark&srsName=EPSG:4326&propertyName=label",

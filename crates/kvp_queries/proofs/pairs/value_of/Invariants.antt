@@ -1,6 +1,0 @@
-use Rattle.std.proofs.Common.{◌≡◌, drop}
-use Rattle.kvp_queries.specs.Pairs.{value_of}
-use Rattle.kvp_queries.proofs.pairs.value_of.Given as goal
-
-abbrev pub invariant-loop-pair : goal.invariant-loop-pair
-invariant-loop-pair l = value_of l.name (drop l.pair-index l.given) ≡ value_of l.name l.given
