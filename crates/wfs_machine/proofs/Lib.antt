@@ -1,3 +1,7 @@
-pub mod Extending
-pub mod Folding
-pub mod Rows
+pub mod Carrying
+pub mod Laying
+pub mod Places
+pub mod Stores
+pub mod Takings
+pub mod Telling
+pub mod Typed

@@ -1,5 +1,4 @@
-pub mod History
+pub mod Carried
 pub mod Kept
-pub mod Read
-pub mod State
-pub mod Step
+pub mod Ordered
+pub mod Told

@@ -1,17 +1,16 @@
-//! The machine of the service, so far for inserts and queries: what a request answers and what state it leaves, stated as a step on
-//! plain lists (`specs/`), and a plain machine that takes those steps.
+//! The plain machine of the service: it takes the steps that the model defines, one by one, in memory and over one list of features. It is for
+//! reasoning, and for a service whose state may end with the process.
 #![tactic(auto)]
 
-mod acting;
-mod finding;
-mod fitting;
-mod paging;
+mod dividing;
+mod locking;
+mod naming;
+mod ordered;
 mod plain;
-mod reading;
-mod row;
+mod playing;
+mod storing;
+mod transacting;
 mod viewing;
 
 pub use plain::Plain;
-
-#[cfg(test)]
-mod tests;
+pub use stored_queries::Stored;

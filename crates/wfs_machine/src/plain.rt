@@ -1,143 +1,153 @@
-//! The plain machine.
+//! The plain machine: its state, its beginning, its steps and its reads.
 
-ghost use Rattle.std.specs.Prelude.{◌≡◌, IfOk, OnErr};
+ghost use Rattle.std.specs.Prelude.{◌≡◌, IfOk, OnErr, replicate};
+ghost use Rattle.wfs_model.specs.Changing.{IsChange};
+ghost use Rattle.wfs_model.specs.OfSchema.{IsOfSchema};
+ghost use Rattle.wfs_model.specs.Read.{read};
+ghost use Rattle.wfs_model.specs.State.{first_machine, opened, durable, clamped, moment_in};
+ghost use Rattle.wfs_model.specs.Step.{step};
+ghost use Rattle.wfs_machine.specs.Kept.{IsRunning};
+ghost use Rattle.wfs_machine.specs.Told.{IsNext};
 
-use crate::acting::transact;
-use crate::fitting::do_actions_fit;
-use crate::reading::{all_selected, presented};
-use crate::row::Row;
 use feature_values::{Feature, Schema};
+use lock_table::LockTable;
 use std::alloc::Global;
 use std::marker::Model;
-use wfs_ends::{List, Mem, OutOfMemory};
+use stored_queries::{Stored, answer};
+use wfs_ends::{List, Mem};
 use wfs_model::{Entry, Reply, Request};
 
 // A moment that is handed in counts as this one at the most.
 const LAST_MOMENT: u64 = 200_000_000_000;
 
-/// The plain machine: it takes the steps of the service one by one, and looks through all that it
-/// has. Contracts see it as the schema that it serves and the service's state.
+/// The plain machine: it takes the steps of the service one by one. Contracts see it as the schema that it serves and the
+/// service's state.
 #[derive(Drop)]
 pub struct Plain {
-    alloc: Global,
-    schema: Schema,
-    // by type
-    rows: Vec<Row>,
+    pub(crate) alloc: Global,
+    pub(crate) schema: Schema,
+    // in default order
+    pub(crate) features: Vec<Feature>,
     // how many numbers were given, by type
-    counters: Vec<u64>,
-    last: u64,
+    pub(crate) counters: List<u64>,
+    pub(crate) stored: Stored,
+    pub(crate) opening: u64,
+    pub(crate) locks: LockTable,
+    // how many locks were granted in this opening
+    pub(crate) given: u64,
+    pub(crate) last: u64,
 }
 
 impl Model for Plain {
-    ghost use Rattle.wfs_machine.specs.State.{State, Machine};
-    ghost use Rattle.wfs_machine.specs.Kept.{AreKept};
+    ghost use Rattle.std.specs.Coded.{codes};
+    ghost use Rattle.fes_filter.specs.contracts.filter.Filter as filter_row;
+    ghost use Rattle.wfs_model.specs.State.{Machine};
+    ghost use Rattle.wfs_machine.specs.Kept.{IsRunning};
 
     ghost Value = { Machine };
 
-    ghost view = { λ m. record { schema = m.schema; state = record { features = m.rows.items; counters = m.counters.items; opening = 1; last = m.last } } };
+    ghost coded = { Prim.hlevel (codes, filter_row.the_row.coded) };
 
-    ghost invariant = { λ m. AreKept m.schema m.rows.items m.counters.items };
+    ghost view = { λ m. record { schema = m.schema; state = record { features = m.features.items; counters = m.counters; stored = m.stored.list; opening = m.opening; locks = m.locks.locks; given = m.given; last = m.last } } };
+
+    ghost invariant = { λ m. IsRunning m.schema (record { features = m.features.items; counters = m.counters; stored = m.stored.list; opening = m.opening; locks = m.locks.locks; given = m.given; last = m.last }) m.locks };
+}
+
+// No number was given of any type.
+fn no_numbers(alloc: Global, types: usize) -> Mem<List<u64>>
+    ensures { IfOk result (λ counters. counters ≡ replicate types 0) }
+{
+    let mut counters = Vec::with_capacity(alloc, types)?;
+    for _ in 0..types {
+        counters.push(0)?;
+    }
+    Ok(List::of(counters))
 }
 
 impl Plain {
-    ghost use Rattle.wfs_machine.specs.State.{opened, moment_in};
-    ghost use Rattle.wfs_model.specs.Changing.{IsChange};
-    ghost use Rattle.wfs_machine.specs.Step.{step, read, IsOfTypes};
-    ghost use Rattle.wfs_machine.specs.Kept.{IsRow, AreKept};
-    ghost use Rattle.std.specs.Prelude.{get_or, []};
-
-    /// The machine of the first opening, with no features.
+    /// The machine of the first opening, with nothing in it.
     pub fn new(alloc: Global, schema: Schema) -> Mem<Plain>
-        ensures { IfOk result (λ m. m ≡ opened schema) }
+        ensures { IfOk result (λ m. m ≡ first_machine schema) }
     {
-        let types = schema.types.items().len();
-        let mut rows = Vec::with_capacity(alloc, types)?;
-        let mut counters = Vec::with_capacity(alloc, types)?;
-        for _ in 0..types {
-            rows.push(Row::new(alloc))?;
-            counters.push(0)?;
-        }
+        let counters = no_numbers(alloc, schema.types.items().len())?;
         Ok(Plain {
             alloc,
             schema,
-            rows,
+            features: Vec::new(alloc),
             counters,
+            stored: Stored::new(alloc),
+            opening: 1,
+            locks: LockTable::new(alloc, 1),
+            given: 0,
             last: 0,
         })
     }
 
-    /// The moment at which an entry is taken up that comes at this moment: never before the last
-    /// one, and 200,000,000,000 at the most.
+    /// The moment at which an entry is taken up that comes at this moment: never before the last one, and 200,000,000,000 at
+    /// the most.
     pub fn moment_of(&self, moment: u64) -> u64
-        ensures { result ≡ moment_in self.now.state moment }
+        ensures value { result ≡ moment_in self.now.state moment }
+        ensures next { IsNext self.now.state result }
     {
         moment.min(LAST_MOMENT).max(self.last)
     }
 
-    // The features, by type.
-    pub(crate) fn rows(&self) -> &[Row]
-        ensures rows { result.now ≡ self.now.state.features }
-        ensures kept { AreKept self.now.schema self.now.state.features self.now.state.counters }
-    {
-        self.rows.as_slice()
-    }
-
-    // The features of a type, which need not be there.
-    pub(crate) fn row(&self, kind: u32) -> &[Feature]
-        ensures row { result.now ≡ get_or self.now.state.features kind [] }
-        ensures kept { IsRow kind (get_or self.now.state.counters kind 0) result.now }
-        ensures all { AreKept self.now.schema self.now.state.features self.now.state.counters }
-    {
-        let kind = kind as usize;
-        if kind >= self.rows.len() {
-            return &[];
-        }
-        self.rows[kind].features()
-    }
-
-    /// Takes a step: carries the entry's request out at the entry's moment, and answers it. Where
-    /// memory runs out, the machine is as before. A feature that does not fit the schema is answered as a want of memory.
-    #[tactic(auto, unfolding(crate::specs::Step::step))]
+    /// Takes a step: carries the entry's request out at the moment at which it is taken up, and answers it (OGC 09-025r2, sections 12
+    /// to 15). Where memory runs out, the machine is as before, and so it is where a type would have given more numbers, or the opening
+    /// more locks, than 64 bits hold.
+    #[tactic(auto, unfolding(wfs_model::specs::Step::step))]
     pub fn step(&mut self, entry: &Entry) -> Mem<Reply>
-        requires types { IsOfTypes self.old.schema entry.now.request }
         requires change { IsChange entry.now.request }
-        ensures ok { IfOk result (λ reply. (reply, self.new.state) ≡ step self.old.state entry.now.moment entry.now.request) }
+        requires fitting { IsOfSchema self.old.schema entry.now.request }
+        ensures ok { IfOk result (λ reply. (reply, self.new.state) ≡ step self.old.schema self.old.state (moment_in self.old.state entry.now.moment) entry.now.request) }
         ensures err { OnErr result (self.new ≡ self.old) }
         ensures schema { self.new.schema ≡ self.old.schema }
     {
-        let Request::Transact { actions, .. } = &entry.request else {
-            return Err(OutOfMemory);
-        };
-        if !do_actions_fit(&self.schema, actions.items()) {
-            return Err(OutOfMemory);
-        }
         let moment = self.moment_of(entry.moment);
-        let alloc = self.alloc;
-        let made = transact(
-            alloc,
-            self.rows.as_mut_slice(),
-            &mut self.counters,
-            actions.items(),
-        )?;
-        self.last = moment;
-        Ok(Reply::Transacted {
-            deleted: 0,
-            inserted: List::of(made),
-            updated: List::of(Vec::new(alloc)),
-            replaced: List::of(Vec::new(alloc)),
-        })
+        match &entry.request {
+            Request::GetLocked {
+                present,
+                asked,
+                take,
+                period,
+            } => self.lock_page(moment, present, asked.items(), *take, *period),
+            Request::Lock {
+                asked,
+                take,
+                period,
+            } => self.lock(moment, asked.items(), *take, *period),
+            Request::Renew { lock, period } => self.renew(moment, *lock, *period),
+            Request::Transact { .. } => self.transact(moment, &entry.request),
+            Request::CreateStored(definitions) => self.create(moment, definitions),
+            Request::DropStored(id) => self.drop_stored(moment, id),
+            _ => unreachable!(),
+        }
     }
 
-    /// Answers a read, and prints this moment, 200,000,000,000 at the most.
-    #[tactic(auto, unfolding(crate::specs::Step::step, crate::specs::Read::collection))]
+    /// Answers a read, and prints this moment, 200,000,000,000 at the most (OGC 09-025r2, sections 8 to 11 and 14).
     pub fn read(&self, moment: u64, request: &Request) -> Mem<Reply>
-        ensures { IfOk result (λ reply. reply ≡ read self.now.state moment request.now) }
+        requires { IsChange request.now → ⊥ }
+        ensures { IfOk result (λ reply. reply ≡ read self.now.schema (durable self.now.state) (clamped moment) request.now) }
     {
-        // A request that may change the state is no read.
-        let Request::GetFeatures(present, asked) = request else {
-            return Err(OutOfMemory);
-        };
-        let ids = all_selected(self, self.alloc, asked.items())?;
-        presented(self, self.alloc, moment.min(LAST_MOMENT), present, &ids)
+        let moment = moment.min(LAST_MOMENT);
+        answer(
+            self.alloc,
+            self,
+            &self.stored,
+            &self.schema,
+            moment,
+            request,
+        )
+    }
+
+    /// Begins an opening of this number on what outlives the process. It takes no memory.
+    pub fn reopen(&mut self, opening: u64)
+        ensures state { self.new.state ≡ opened (durable self.old.state) opening }
+        ensures schema { self.new.schema ≡ self.old.schema }
+    {
+        self.locks = LockTable::new(self.alloc, opening);
+        self.opening = opening;
+        self.given = 0;
+        self.last = 0;
     }
 }

@@ -1,5 +1,0 @@
-use Rattle.std.proofs.Common.{◌≡◌, map, take}
-use Rattle.wfs_machine.proofs.finding.ids_of.Given as goal
-
-abbrev pub invariant-loop-feature : goal.invariant-loop-feature
-invariant-loop-feature l = l.ids.items ≡ map (λ f. f.id) (take l.feature-index l.row)
