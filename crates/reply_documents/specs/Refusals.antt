@@ -22,7 +22,7 @@ row status code locator reason = record { status = status; code = code; locator 
 abbrev pub row_shown : code.Row → Row
 row_shown r = row r.status r.code.now r.locator.now r.reason.now
 
--- The table. Row 99 is what is not built yet. A number that is no row counts as 27.
+-- The table. A number that is no row counts as 27.
 unfoldable pub row_of : ℕ → Row
 row_of n =
     if n == 1 then row 400 (codes "OperationParsingFailed") (codes "head") (codes "bad message head") else (
@@ -51,8 +51,7 @@ row_of n =
     if n == 24 then row 400 (codes "InvalidParameterValue") (codes "storedQuery_id") (codes "no such query") else (
     if n == 25 then row 500 (codes "NoApplicableCode") (codes "store") (codes "store fault") else (
     if n == 26 then row 503 (codes "NoApplicableCode") (codes "full") (codes "full") else (
-    if n == 99 then row 501 (codes "OptionNotSupported") (codes "stage") (codes "not built yet") else (
-    row 503 (codes "NoApplicableCode") (codes "memory") (codes "no memory"))))))))))))))))))))))))))))
+    row 503 (codes "NoApplicableCode") (codes "memory") (codes "no memory")))))))))))))))))))))))))))
 
 -- the media type of all replies but those that hold features
 abbrev pub plain_media : List ℕ

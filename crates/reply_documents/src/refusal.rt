@@ -61,7 +61,7 @@ pub(crate) fn put_refusal<S: Sink>(sink: &mut S, failed: bool, refusal: &Refusal
 }
 
 /// Gives the refusal of a row of the table of refusals (docs/FORMATS.md) that points at what all of that row point at,
-/// whole, as `put_reply` gives it: rows 1 to 7, 13, 15 to 18, 23 to 27, and 99. The other rows, whose refusals point at
+/// whole, as `put_reply` gives it: rows 1 to 7, 13, 15 to 18, and 23 to 27. The other rows, whose refusals point at
 /// what their requests name, point at nothing here. A number that is no row counts as 27. `close` says whether the
 /// connection ends after it. It takes no memory.
 ///

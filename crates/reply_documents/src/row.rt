@@ -196,12 +196,6 @@ pub(crate) fn row_of(number: u8) -> Row
             "full",
             "full",
         ),
-        99 => row_with(
-            StatusCode::NOT_IMPLEMENTED,
-            "OptionNotSupported",
-            "stage",
-            "not built yet",
-        ),
         _ => row_with(
             StatusCode::SERVICE_UNAVAILABLE,
             "NoApplicableCode",

@@ -1,5 +1,5 @@
 -- An answer that was given is that of the message.
-use Rattle.std.proofs.Common.{◌≡◌, ℕ, Bool, false, List, Option, Result, Ok, Err, inl, inr, refl, ap, ◌∙◌}
+use Rattle.std.proofs.Common.{◌≡◌, ℕ, Bool, List, Option, Result, Ok, Err, inl, inr, refl, ap, ◌∙◌}
 use Rattle.std.specs.Prelude.{◌||◌, IfSome, Some, slice_get}
 use Rattle.wfs_ends.specs.Ends.{Shown, later}
 use Rattle.wfs_ends.specs.declared.fault.WriteFault.{WriteFault}
@@ -13,7 +13,7 @@ use Rattle.reply_documents.specs.ReplyText.{reply_text}
 use Rattle.reply_documents.specs.Refusals.{fixed_text}
 use Rattle.wfsd.specs.declared.ending.SessionEnd.{SessionEnd}
 use Rattle.wfsd.specs.Asks.{asked}
-use Rattle.wfsd.specs.Served.{Served, Judged, carried, judged_by, judged, is_not_built, end_by, given_answer, refused_for_memory}
+use Rattle.wfsd.specs.Served.{Served, Judged, carried, judged_by, judged, end_by, given_answer, refused_for_memory}
 use Rattle.wfsd.specs.Rounds.{GivesAnswer, Replies}
 
 carried_keeps : (served : Served) (m : Message) (moment : ℕ) (request : Request) → (carried served m moment request).served.schema ≡ served.schema
@@ -41,7 +41,7 @@ judged_keeps served m moment = by_keeps served m moment (asked m served.schema)
 
 module _ (served served' : Served) (m : Message) (last closes : Bool) (moment : ℕ) (c c' : Option (List ℕ)) (old new : Shown) (r : Result (Option SessionEnd) WriteFault) (is_closing : closes ≡ (m.close || last)) (now : IfSome c (λ ms. slice_get ms 0 ≡ Some moment)) (is_later : c' ≡ later c) where
   pub replied : (reply : Reply) (schema : Schema) → record { reply = reply; served = served' } ≡ judged served m moment → schema ≡ served'.schema
-      → GivesAnswer r old (reply_text reply schema (is_not_built reply || closes)) (end_by (is_not_built reply) closes) new → Replies served m last c old r served' c' new
+      → GivesAnswer r old (reply_text reply schema closes) (end_by closes) new → Replies served m last c old r served' c' new
   replied reply schema e is_schema gives =
       let same : schema ≡ served.schema = is_schema ∙ ap (λ (j : Judged). j.served.schema) e ∙ judged_keeps served m moment in
       record {
@@ -54,7 +54,7 @@ module _ (served served' : Served) (m : Message) (last closes : Bool) (moment : 
         later = is_later;
       }
 
-  pub replied_for_memory : served' ≡ served → GivesAnswer r old (fixed_text 27 closes) (end_by false closes) new → Replies served m last c old r served' c' new
+  pub replied_for_memory : served' ≡ served → GivesAnswer r old (fixed_text 27 closes) (end_by closes) new → Replies served m last c old r served' c' new
   replied_for_memory e gives = record {
     moment = moment;
     now = now;

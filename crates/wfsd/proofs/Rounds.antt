@@ -15,42 +15,34 @@ use Rattle.wfsd.specs.declared.ending.SessionEnd.{SessionEnd}
 use Rattle.wfsd.specs.declared.ending.SessionEnd.TheVariants as end
 use Rattle.wfsd.specs.declared.round.Round.{Round}
 use Rattle.wfsd.specs.declared.round.Round.TheVariants as round
-use Rattle.wfsd.specs.Served.{Served, Answer, IsAnswer, judged, end_by, is_not_built}
+use Rattle.wfsd.specs.Served.{Served, Answer, IsAnswer, end_by}
 use Rattle.wfsd.specs.Session.{Point, IsAnswered, final, final_at, row_of, input_ended, input_cut, refused, answered, read_failed, line_failed, answer_failed, refusal_failed, no_memory, memory_failed, Stays, HasCause, IsAt, GoesOn, IsOver}
 use Rattle.wfsd.specs.Rounds.{Replies, IsRound, round_of, IsRefused, IsGivenUp}
 
 -- ---- answers
 
-not_last : (not_built close last : Bool) → end_by not_built (close || last) ≡ None → last ≡ false
-not_last true close last e = absurd cc
-not_last false true last e = absurd cc
-not_last false false true e = absurd cc
-not_last false false false e = refl
+not_last : (close last : Bool) → end_by (close || last) ≡ None → last ≡ false
+not_last true last e = absurd cc
+not_last false true e = absurd cc
+not_last false false e = refl
 
 open_answer : (served : Served) (m : Message) (last : Bool) (moment : ℕ) (a : Answer) → IsAnswer served m last moment a → a.ends ≡ None → last ≡ false
-open_answer served m last moment a (inl is) e = not_last (is_not_built (judged served m moment).reply) m.close last (sym (ap (λ (x : Answer). x.ends) is) ∙ e)
-open_answer served m last moment a (inr is) e = not_last false m.close last (sym (ap (λ (x : Answer). x.ends) is) ∙ e)
+open_answer served m last moment a (inl is) e = not_last m.close last (sym (ap (λ (x : Answer). x.ends) is) ∙ e)
+open_answer served m last moment a (inr is) e = not_last m.close last (sym (ap (λ (x : Answer). x.ends) is) ∙ e)
 
-end_cause : (not_built closes : Bool) (e : SessionEnd) (old new : Shown) → end_by not_built closes ≡ Some e → HasCause e old new
-end_cause true closes end.Unframed old new is = tt
-end_cause true closes end.Ended old new is = absurd cc
-end_cause true closes end.Closed old new is = absurd cc
-end_cause true closes end.Cut old new is = absurd cc
-end_cause true closes end.ReadFault old new is = absurd cc
-end_cause true closes end.WriteFault old new is = absurd cc
-end_cause true closes end.NoMemory old new is = absurd cc
-end_cause false true end.Closed old new is = tt
-end_cause false true end.Ended old new is = absurd cc
-end_cause false true end.Unframed old new is = absurd cc
-end_cause false true end.Cut old new is = absurd cc
-end_cause false true end.ReadFault old new is = absurd cc
-end_cause false true end.WriteFault old new is = absurd cc
-end_cause false true end.NoMemory old new is = absurd cc
-end_cause false false e old new is = absurd cc
+end_cause : (closes : Bool) (e : SessionEnd) (old new : Shown) → end_by closes ≡ Some e → HasCause e old new
+end_cause true end.Closed old new is = tt
+end_cause true end.Ended old new is = absurd cc
+end_cause true end.Unframed old new is = absurd cc
+end_cause true end.Cut old new is = absurd cc
+end_cause true end.ReadFault old new is = absurd cc
+end_cause true end.WriteFault old new is = absurd cc
+end_cause true end.NoMemory old new is = absurd cc
+end_cause false e old new is = absurd cc
 
 answer_cause : (served : Served) (m : Message) (last : Bool) (moment : ℕ) (a : Answer) (e : SessionEnd) (old new : Shown) → IsAnswer served m last moment a → a.ends ≡ Some e → HasCause e old new
-answer_cause served m last moment a e old new (inl is) h = end_cause (is_not_built (judged served m moment).reply) (m.close || last) e old new (sym (ap (λ (x : Answer). x.ends) is) ∙ h)
-answer_cause served m last moment a e old new (inr is) h = end_cause false (m.close || last) e old new (sym (ap (λ (x : Answer). x.ends) is) ∙ h)
+answer_cause served m last moment a e old new (inl is) h = end_cause (m.close || last) e old new (sym (ap (λ (x : Answer). x.ends) is) ∙ h)
+answer_cause served m last moment a e old new (inr is) h = end_cause (m.close || last) e old new (sym (ap (λ (x : Answer). x.ends) is) ∙ h)
 
 -- ---- what was given
 

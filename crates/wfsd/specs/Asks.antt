@@ -11,7 +11,7 @@ use Rattle.feature_values.specs.declared.schema.Schema.{Schema}
 use Rattle.wfs_model.specs.declared.request.Request.{Request}
 use Rattle.wfs_model.specs.declared.fault.AskFault.{AskFault}
 use Rattle.wfs_model.specs.Terms.{refused}
-use Rattle.wfs_requests.specs.Transactions.{request_of}
+use Rattle.wfs_requests.specs.Requests.{request_of}
 use Rattle.kvp_queries.specs.Request.{asked_of}
 
 abbrev pub is_question_mark : ℕ → Bool

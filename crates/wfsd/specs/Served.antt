@@ -1,5 +1,5 @@
 -- What the service answers to a message, by the history so far.
-use Rattle.std.specs.Prelude.{◌≡◌, ℕ, ◌⊎◌, min, Bool, false, ◌||◌, ◌==◌, if◌then◌else◌, List, [], ◌∷◌, ◌++◌, length, codes, Option, Some, None, Result, Ok, Err}
+use Rattle.std.specs.Prelude.{◌≡◌, ℕ, ◌⊎◌, min, Bool, ◌||◌, if◌then◌else◌, List, [], ◌∷◌, ◌++◌, length, codes, Option, Some, None, Result, Ok, Err}
 use Rattle.http_session.specs.declared.message.Message.{Message}
 use Rattle.feature_values.specs.declared.schema.Schema.{Schema}
 use Rattle.wfs_model.specs.declared.entry.Entry.{Entry}
@@ -10,13 +10,13 @@ use Rattle.wfs_model.specs.declared.reply.Reply.{Reply}
 use Rattle.wfs_model.specs.declared.reply.Reply.TheVariants.{Refused}
 use Rattle.wfs_model.specs.declared.fault.AskFault.{AskFault}
 use Rattle.wfs_model.specs.declared.fault.AskFault.TheVariants as ask
-use Rattle.wfs_machine.specs.State.{State, first_state}
-use Rattle.wfs_machine.specs.Step.{read}
-use Rattle.wfs_machine.specs.History.{after_all, timed, reply_after}
+use Rattle.wfs_model.specs.State.{State, durable, first_state, clamped}
+use Rattle.wfs_model.specs.Read.{read}
+use Rattle.wfs_model.specs.History.{after_all, timed, reply_after}
 use Rattle.reply_documents.specs.ReplyText.{reply_text}
 use Rattle.reply_documents.specs.Refusals.{fixed_text}
 use Rattle.wfsd.specs.declared.ending.SessionEnd.{SessionEnd}
-use Rattle.wfsd.specs.declared.ending.SessionEnd.TheVariants.{Closed, Unframed}
+use Rattle.wfsd.specs.declared.ending.SessionEnd.TheVariants.{Closed}
 use Rattle.wfsd.specs.Asks.{is_get, query_of, asked}
 
 -- the service of one process: the schema that it serves, and the entries that it took up, from the state of the first opening on
@@ -29,7 +29,7 @@ opening_of schema = first_state (length schema.types)
 
 -- the state after all entries
 abbrev pub state_of : Served → State
-state_of served = after_all (opening_of served.schema) served.entries
+state_of served = after_all served.schema (opening_of served.schema) served.entries
 
 abbrev pub with_entry : Served → Entry → Served
 with_entry served entry = record { schema = served.schema; entries = served.entries ++ entry ∷ [] }
@@ -48,7 +48,7 @@ pub record Judged : Type 0 where
   pub served : Served
 
 abbrev pub entered : Served → Entry → Judged
-entered served entry = record { reply = reply_after (opening_of served.schema) served.entries entry; served = with_entry served entry }
+entered served entry = record { reply = reply_after served.schema (opening_of served.schema) served.entries entry; served = with_entry served entry }
 
 -- a changing request as an entry, at its moment in the history
 abbrev pub taken_up : Served → Message → ℕ → Request → Judged
@@ -62,7 +62,7 @@ carried served m moment (Renew lock period) = taken_up served m moment (Renew lo
 carried served m moment (Transact lock release actions) = taken_up served m moment (Transact lock release actions)
 carried served m moment (CreateStored queries) = taken_up served m moment (CreateStored queries)
 carried served m moment (DropStored id) = taken_up served m moment (DropStored id)
-carried served m moment request = record { reply = read (state_of served) moment request; served = served }
+carried served m moment request = record { reply = read served.schema (durable (state_of served)) (clamped moment) request; served = served }
 
 abbrev pub refusal_of : AskFault → Refusal
 refusal_of (ask.Refused refusal) = refusal
@@ -78,14 +78,9 @@ judged served m moment = judged_by served m moment (asked m served.schema)
 
 -- ---- the answer
 
--- a refusal of what is not built yet
-abbrev pub is_not_built : Reply → Bool
-is_not_built (Refused refusal) = refusal.row == 99
-is_not_built reply = false
-
--- how the session ends with an answer, if it does: what is not built yet ends it, and so does a message that asks for it
-abbrev pub end_by : Bool → Bool → Option SessionEnd
-end_by not_built closes = if not_built then Some Unframed else (if closes then Some Closed else None)
+-- how the session ends with an answer, if it does: it does where the message asks for it, or is the last
+abbrev pub end_by : Bool → Option SessionEnd
+end_by closes = if closes then Some Closed else None
 
 -- what is given to a message, what the service is behind it, and how the session ends with it, if it does
 pub record Answer : Type 0 where
@@ -96,9 +91,9 @@ pub record Answer : Type 0 where
 -- the answer to a message; the last message that a session may have closes it
 abbrev pub given_answer : Served → Message → Bool → Judged → Answer
 given_answer served m last j = record {
-  text = reply_text j.reply served.schema (is_not_built j.reply || (m.close || last));
+  text = reply_text j.reply served.schema (m.close || last);
   served = j.served;
-  ends = end_by (is_not_built j.reply) (m.close || last);
+  ends = end_by (m.close || last);
 }
 
 -- memory ran out, and nothing was done
@@ -106,7 +101,7 @@ abbrev pub refused_for_memory : Served → Message → Bool → Answer
 refused_for_memory served m last = record {
   text = fixed_text 27 (m.close || last);
   served = served;
-  ends = end_by false (m.close || last);
+  ends = end_by (m.close || last);
 }
 
 abbrev pub IsAnswer : Served → Message → Bool → ℕ → Answer → Type 0

@@ -3,7 +3,7 @@
 ghost use Rattle.std.specs.Prelude.{◌≡◌, IfOk};
 ghost use Rattle.wfs_ends.specs.Read.{GivesBut};
 ghost use Rattle.doc_read.specs.Document.{document};
-ghost use Rattle.wfs_machine.specs.Step.{IsOfTypes};
+ghost use Rattle.wfs_model.specs.OfSchema.{IsOfSchema};
 ghost use Rattle.wfsd.specs.Asks.{is_service_path, is_get, is_post, path_of, query_of, posted, asked};
 
 use doc_read::{DocFault, read_document};
@@ -42,7 +42,7 @@ pub fn split_target(target: &str) -> (&str, &str)
 // Reads the request of a document.
 fn read_posted(alloc: Global, body: &[u8], schema: &Schema) -> Result<Request, AskFault>
     ensures read { GivesBut AskFault.OutOfMemory (λ r. r) result (posted (document body.now) schema.now) }
-    ensures types { IfOk result (λ r. IsOfTypes schema.now r) }
+    ensures of_schema { IfOk result (λ r. IsOfSchema schema.now r) }
 {
     match read_document(alloc, body) {
         Ok(root) => read_request(alloc, &root, schema),
@@ -56,7 +56,7 @@ fn read_posted(alloc: Global, body: &[u8], schema: &Schema) -> Result<Request, A
 #[tactic(auto, unfolding(crate::specs::Asks::asked))]
 pub fn read_asked(alloc: Global, message: &Message, schema: &Schema) -> Result<Request, AskFault>
     ensures read { GivesBut AskFault.OutOfMemory (λ r. r) result (asked message.now schema.now) }
-    ensures types { IfOk result (λ r. IsOfTypes schema.now r) }
+    ensures of_schema { IfOk result (λ r. IsOfSchema schema.now r) }
 {
     let (path, query) = split_target(message.target.as_str());
     if !is_service_path(path.as_bytes()) {

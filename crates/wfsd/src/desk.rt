@@ -24,7 +24,6 @@ pub struct Desk {
 
 impl Model for Desk {
     ghost use Rattle.std.specs.Prelude.{◌≡◌};
-    ghost use Rattle.wfs_machine.specs.State.{Machine};
     ghost use Rattle.std.specs.Coded.{codes};
     ghost use Rattle.fes_filter.specs.contracts.filter.Filter as filter;
     ghost use Rattle.wfsd.specs.Served.{Served, state_of};
@@ -40,8 +39,8 @@ impl Model for Desk {
 
 impl Desk {
     ghost use Rattle.std.specs.Prelude.{[]};
-    ghost use Rattle.wfs_machine.specs.Step.{IsOfTypes, read};
-    ghost use Rattle.wfs_machine.specs.History.{timed};
+    ghost use Rattle.wfs_model.specs.History.{timed};
+    ghost use Rattle.wfs_model.specs.OfSchema.{IsOfSchema};
     ghost use Rattle.wfs_model.specs.Changing.{IsChange};
     ghost use Rattle.wfsd.specs.Served.{Served, Judged, state_of, entered, entry_of, carried, judged};
 
@@ -74,7 +73,7 @@ impl Desk {
     // Takes an entry up: the entry's moment becomes the one at which the service carries it out,
     // never before the last one, the machine takes its step, and the entry joins the history.
     fn take_up(&mut self, entry: Entry) -> Mem<Reply>
-        requires types { IsOfTypes self.old.schema entry.request }
+        requires of_schema { IsOfSchema self.old.schema entry.request }
         requires change { IsChange entry.request }
         ensures ok { IfOk result (λ reply. record { reply = reply; served = self.new } ≡ entered self.old (timed (state_of self.old) entry)) }
         ensures err { OnErr result (self.new ≡ self.old) }
@@ -92,7 +91,7 @@ impl Desk {
     // Carries a request out that a message asked.
     #[tactic(auto, unfolding(crate::specs::Served::carried, crate::specs::Served::entry_of))]
     fn carry_out(&mut self, message: &Message, moment: u64, request: Request) -> Mem<Reply>
-        requires types { IsOfTypes self.old.schema request }
+        requires of_schema { IsOfSchema self.old.schema request }
         ensures ok { IfOk result (λ reply. record { reply = reply; served = self.new } ≡ carried self.old message.now moment request) }
         ensures err { OnErr result (self.new ≡ self.old) }
     {

@@ -5,7 +5,7 @@ pub enum SessionEnd {
     Ended,
     /// An answer closed the session, as the message or the limit of messages asked for.
     Closed,
-    /// A refusal closed the session, since where the next message begins is not known, or the rest is not built yet.
+    /// A refusal closed the session, since where the next message begins is not known.
     Unframed,
     /// The input ended within a message.
     Cut,

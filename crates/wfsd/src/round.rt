@@ -4,7 +4,7 @@ ghost use Rattle.std.specs.Prelude.{◌≡◌, false, ◌||◌};
 ghost use Rattle.wfs_ends.specs.Ends.{Gives};
 ghost use Rattle.reply_documents.specs.ReplyText.{reply_text};
 ghost use Rattle.reply_documents.specs.Refusals.{fixed_text};
-ghost use Rattle.wfsd.specs.Served.{is_not_built, end_by};
+ghost use Rattle.wfsd.specs.Served.{end_by};
 ghost use Rattle.wfsd.specs.Rounds.{GivesAnswer, Replies, IsRefused, IsGivenUp, IsRound, round_of};
 
 use crate::desk::Desk;
@@ -92,23 +92,11 @@ fn is_closing(message: &Message, is_last: bool) -> bool
     message.close || is_last
 }
 
-// Whether a reply says that something is not built yet.
-fn is_not_built(reply: &Reply) -> bool
-    ensures { result ≡ is_not_built reply.now }
-{
-    match reply {
-        Reply::Refused(refusal) => refusal.row == 99,
-        _ => false,
-    }
-}
-
 // How the session ends with an answer, if it does.
-fn end_by(not_built: bool, closes: bool) -> Option<SessionEnd>
-    ensures { result ≡ end_by not_built closes }
+fn end_by(closes: bool) -> Option<SessionEnd>
+    ensures { result ≡ end_by closes }
 {
-    if not_built {
-        Some(SessionEnd::Unframed)
-    } else if closes {
+    if closes {
         Some(SessionEnd::Closed)
     } else {
         None
@@ -123,11 +111,10 @@ fn give_reply<S: Sink>(
     sink: &mut S,
     buffer: &mut Buffer,
 ) -> Result<Option<SessionEnd>, WriteFault>
-    ensures { GivesAnswer result (S.sink sink.old) (reply_text reply.now schema.now (is_not_built reply.now || closes)) (end_by (is_not_built reply.now) closes) (S.sink sink.new) }
+    ensures { GivesAnswer result (S.sink sink.old) (reply_text reply.now schema.now closes) (end_by closes) (S.sink sink.new) }
 {
-    let not_built = is_not_built(reply);
-    put_buffered_reply(reply, schema, not_built || closes, sink, buffer)?;
-    Ok(end_by(not_built, closes))
+    put_buffered_reply(reply, schema, closes, sink, buffer)?;
+    Ok(end_by(closes))
 }
 
 // Says that memory ran out before a message was answered.
@@ -136,10 +123,10 @@ fn give_no_memory<S: Sink>(
     sink: &mut S,
     buffer: &mut Buffer,
 ) -> Result<Option<SessionEnd>, WriteFault>
-    ensures { GivesAnswer result (S.sink sink.old) (fixed_text 27 closes) (end_by false closes) (S.sink sink.new) }
+    ensures { GivesAnswer result (S.sink sink.old) (fixed_text 27 closes) (end_by closes) (S.sink sink.new) }
 {
     put_buffered(27, closes, sink, buffer)?;
-    Ok(end_by(false, closes))
+    Ok(end_by(closes))
 }
 
 // Gives a reply through the buffer.

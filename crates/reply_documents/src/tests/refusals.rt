@@ -17,7 +17,7 @@ type Row = (
     &'static str,
 );
 
-static ROWS: [Row; 28] = [
+static ROWS: [Row; 27] = [
     (
         1,
         "400 Bad Request",
@@ -234,20 +234,10 @@ static ROWS: [Row; 28] = [
         "memory",
         "no memory",
     ),
-    (
-        99,
-        "501 Not Implemented",
-        274,
-        "OptionNotSupported",
-        "stage",
-        "not built yet",
-    ),
 ];
 
 // The rows whose refusals all point at the locator above.
-static FIXED: [u8; 18] = [
-    1, 2, 3, 4, 5, 6, 7, 13, 15, 16, 17, 18, 23, 24, 25, 26, 27, 99,
-];
+static FIXED: [u8; 17] = [1, 2, 3, 4, 5, 6, 7, 13, 15, 16, 17, 18, 23, 24, 25, 26, 27];
 
 fn report(alloc: Global, row: Row) -> Mem<String> {
     let (_, status, size, code, locator, text) = row;

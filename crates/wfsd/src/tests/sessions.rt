@@ -260,26 +260,6 @@ static BAD_HEAD_REFUSED: [Answer; 1] = [(
     ],
 )];
 
-static NOT_BUILT: [Message; 1] = [(
-    "GET /wfs?service=WFS&request=GetCapabilities HTTP/1.1\r\nHost: h\r\n\r\n",
-    "",
-)];
-
-static NOT_BUILT_REFUSED: [Answer; 1] = [(
-    "501 Not Implemented",
-    "text/xml",
-    "Connection: close\r\n",
-    &[
-        REPORT,
-        "OptionNotSupported",
-        REPORT_LOCATOR,
-        "stage",
-        REPORT_TEXT,
-        "not built yet",
-        REPORT_END,
-    ],
-)];
-
 #[test]
 fn a_session_ends_with_the_answer_that_closes_it(rt: HostRuntime) {
     let alloc = rt.alloc();
@@ -289,10 +269,48 @@ fn a_session_ends_with_the_answer_that_closes_it(rt: HostRuntime) {
         Ok(true),
         "bad head"
     );
+}
+
+// A lock on one of two marks, and one on both of them.
+static LOCKING: [Message; 3] = [
+    ("", TWO_MARKS),
+    (
+        "GET /wfs?service=WFS&request=LockFeature&resourceId=Mark.1 HTTP/1.1\r\nHost: h\r\n\r\n",
+        "",
+    ),
+    (
+        "GET /wfs?service=WFS&request=LockFeature&typeNames=Mark HTTP/1.1\r\nHost: h\r\n\r\n",
+        "",
+    ),
+];
+
+const LOCKED: &str =
+    "<?xml version=\"1.0\" encoding=\"UTF-8\"?><wfs:LockFeatureResponse xmlns:wfs=\"http://www.opengis.net/wfs/2.0\" xmlns:fes=\"http://www.opengis.net/fes/2.0\" lockId=\"lock-1-1\"><wfs:FeaturesLocked><fes:ResourceId rid=\"Mark.1\"/></wfs:FeaturesLocked></wfs:LockFeatureResponse>";
+
+static LOCKED_AND_REFUSED: [Answer; 3] = [
+    ("200 OK", "text/xml", "", &[INSERTED]),
+    ("200 OK", "text/xml", "", &[LOCKED]),
+    (
+        "409 Conflict",
+        "text/xml",
+        "",
+        &[
+            REPORT,
+            "CannotLockAllFeatures",
+            REPORT_LOCATOR,
+            "Mark.1",
+            REPORT_TEXT,
+            "not all are free",
+            REPORT_END,
+        ],
+    ),
+];
+
+#[test]
+fn a_locked_feature_is_not_locked_again(rt: HostRuntime) {
     assert_eq!(rt;
-        talks(alloc, &NOT_BUILT, 12, 0, &NOT_BUILT_REFUSED),
-        Ok(true),
-        "not built"
+        talks(rt.alloc(), &LOCKING, 0, 3, &LOCKED_AND_REFUSED),
+        Ok(true)
     );
 }
 
