@@ -1,0 +1,4 @@
+pub mod Cells
+pub mod Found
+pub mod Near
+pub mod Room

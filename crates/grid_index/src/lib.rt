@@ -1,0 +1,13 @@
+//! Which features lie near a box, by the cells of the plane that their own boxes cover.
+#![tactic(auto)]
+
+mod cells;
+mod found;
+mod grid;
+mod laws;
+
+pub use grid::Grid;
+pub use laws::{spare_alone, spare_without};
+
+#[cfg(test)]
+mod tests;

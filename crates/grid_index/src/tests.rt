@@ -1,0 +1,129 @@
+//! What the grid answers, each call with ample memory.
+
+use crate::Grid;
+use feature_values::Rid;
+use geom_core::{Box2, Pos};
+use std::alloc::Global;
+use wfs_ends::{List, Mem};
+
+// features 1 to 6 with boxes, and feature 8 twice with one box
+static PLACED: [(u64, [i64; 4]); 8] = [
+    (1, [0, 0, 1, 1]),
+    (2, [70_000, 0, 70_000, 0]),
+    (3, [-1, -1, -1, -1]),
+    (4, [65_535, 65_535, 65_536, 65_536]),
+    // 10 times 10 cells
+    (5, [-300_000, 10_000_000, 300_000, 10_600_000]),
+    // 8 times 8 cells
+    (6, [0, 20_000_000, 524_287, 20_447_232]),
+    (8, [-65_536, 0, -65_536, 0]),
+    (8, [-65_536, 0, -65_536, 0]),
+];
+
+static ASKED: [([i64; 4], &[u64]); 8] = [
+    ([5, 5, 6, 6], &[1, 4, 5]),
+    ([65_535, 0, 65_536, 0], &[1, 2, 4, 5]),
+    ([-5, -5, -4, -4], &[3, 5]),
+    ([-65_537, 0, -65_537, 0], &[5]),
+    ([-65_536, 9, -65_536, 9], &[5, 8]),
+    ([524_287, 20_000_000, 524_287, 20_000_000], &[5, 6]),
+    ([524_288, 20_000_000, 524_288, 20_000_000], &[5]),
+    (
+        [-1_000_000_000, -1_000_000_000, 1_000_000_000, 1_000_000_000],
+        &[1, 2, 3, 4, 5, 6, 8],
+    ),
+];
+
+fn box_of(corners: &[i64; 4]) -> Option<Box2> {
+    let low = Pos::new(corners[0], corners[1]).ok()?;
+    let high = Pos::new(corners[2], corners[3]).ok()?;
+    Box2::new(low, high).ok()
+}
+
+fn mark(number: u64) -> Rid {
+    Rid { kind: 0, number }
+}
+
+fn put(alloc: Global, grid: &mut Grid, number: u64, area: Box2) -> Mem<()> {
+    let mut areas = Vec::new(alloc);
+    areas.push(area)?;
+    grid.reserve(&List::of(areas))?;
+    grid.add(mark(number), area);
+    Ok(())
+}
+
+// The grid of the first so many of the pairs.
+fn filled(alloc: Global, pairs: &[(u64, [i64; 4])]) -> Mem<Grid> {
+    let mut grid = Grid::new(alloc);
+    for (number, corners) in pairs {
+        if let Some(area) = box_of(corners) {
+            put(alloc, &mut grid, *number, area)?;
+        }
+    }
+    Ok(grid)
+}
+
+fn are_just(ids: &[Rid], numbers: &[u64]) -> bool {
+    ids.len() == numbers.len() && numbers.iter().all(|n| ids.iter().any(|id| id.number == *n))
+}
+
+fn answers(alloc: Global, grid: &Grid, corners: &[i64; 4], numbers: &[u64]) -> Mem<bool> {
+    match box_of(corners) {
+        Some(area) => {
+            let ids = grid.near(alloc, &area)?;
+            Ok(are_just(ids.items(), numbers))
+        }
+        None => Ok(false),
+    }
+}
+
+// The first row that the grid answers otherwise.
+fn first_wrong(alloc: Global, grid: &Grid) -> Mem<Option<usize>> {
+    for (i, (corners, numbers)) in ASKED.iter().enumerate() {
+        if !answers(alloc, grid, corners, numbers)? {
+            return Ok(Some(i));
+        }
+    }
+    Ok(None)
+}
+
+fn first_wrong_of_all(alloc: Global) -> Mem<Option<usize>> {
+    let grid = filled(alloc, &PLACED)?;
+    first_wrong(alloc, &grid)
+}
+
+#[test]
+fn all_rows_hold(rt: HostRuntime) {
+    assert_eq!(rt; first_wrong_of_all(rt.alloc()), Ok(None));
+}
+
+fn two_marks_hold(alloc: Global) -> Mem<bool> {
+    let grid = filled(alloc, &PLACED[..2])?;
+    answers(alloc, &grid, &[5, 5, 6, 6], &[1])
+}
+
+#[test]
+fn the_mark_in_the_next_cell_is_left_out(rt: HostRuntime) {
+    assert_eq!(rt; two_marks_hold(rt.alloc()), Ok(true));
+}
+
+fn remove(grid: &mut Grid) {
+    if let Some(area) = box_of(&PLACED[7].1) {
+        grid.remove(mark(8), area);
+    }
+}
+
+// What is near the box of a pair that stands twice, after one is removed, and after the other is.
+fn twice_removed_hold(alloc: Global) -> Mem<bool> {
+    let mut grid = filled(alloc, &PLACED[6..])?;
+    remove(&mut grid);
+    let once = answers(alloc, &grid, &PLACED[7].1, &[8])?;
+    remove(&mut grid);
+    remove(&mut grid);
+    Ok(once && answers(alloc, &grid, &PLACED[7].1, &[])?)
+}
+
+#[test]
+fn one_of_two_equal_pairs_is_removed(rt: HostRuntime) {
+    assert_eq!(rt; twice_removed_hold(rt.alloc()), Ok(true));
+}
