@@ -126,6 +126,7 @@ left_fit schema action f of_schema fits = by_aim (selects action f) refl
     listed : (o : Option Feature) → selects action f ≡ true → instead action f ≡ o → All (Fits schema) (to_list o)
     listed None aim is = All-nil (Fits schema)
     listed (Some g) aim is = All-cons (Fits schema) g [] (instead_fits schema action f g of_schema fits aim is) (All-nil (Fits schema))
+
     by_aim : (b : Bool) → selects action f ≡ b → All (Fits schema) (if b then to_list (instead action f) else f ∷ [])
     by_aim true aim = listed (instead action f) aim refl
     by_aim false aim = All-cons (Fits schema) f [] fits (All-nil (Fits schema))

@@ -140,11 +140,11 @@ transact_kept : (schema : Schema) (state : State) (moment : ℕ) (lock : Option 
 unfolding step plan_of plan_with
 transact_kept schema state moment lock release actions kept of_schema =
     settled_kept schema state moment (plan_of schema state moment lock actions >>= λ plan. Ok (carried_out state moment lock release plan)) kept (λ done is.
-      let one = bind_ok (plan_of schema state moment lock actions) _ done is in
-      let two = bind_ok (named_if state moment lock) _ one.0 one.1 in
-      let plays = all_play (durable state) (permitted schema state.locks moment two.0) state.features state.counters actions one.0 (sound_kept schema (durable state) kept) two.2 in
-      let allowed = all_allowed schema (permitted schema state.locks moment two.0) state.features state.counters actions one.0 of_schema.actions kept.fitting two.2 in
-      subst (λ (d : Done). IsKept schema (durable d.1)) (ok_done (carried_out state moment lock release one.0) done one.2) (plan_kept schema state moment lock release one.0 kept plays.sound allowed))
+    let one = bind_ok (plan_of schema state moment lock actions) _ done is in
+    let two = bind_ok (named_if state moment lock) _ one.0 one.1 in
+    let plays = all_play (durable state) (permitted schema state.locks moment two.0) state.features state.counters actions one.0 (sound_kept schema (durable state) kept) two.2 in
+    let allowed = all_allowed schema (permitted schema state.locks moment two.0) state.features state.counters actions one.0 of_schema.actions kept.fitting two.2 in
+    subst (λ (d : Done). IsKept schema (durable d.1)) (ok_done (carried_out state moment lock release one.0) done one.2) (plan_kept schema state moment lock release one.0 kept plays.sound allowed))
 
 with_stored_kept : (schema : Schema) (state : State) (moment : ℕ) (reply : Reply) (r : Result (List StoredQuery) StoredFault) → IsKept schema (durable state) → ((now : List StoredQuery) → r ≡ Ok now → AreKept schema now) → Keeps schema state (settled state moment (or_refused r >>= λ stored. Ok (with_stored state reply stored)))
 with_stored_kept schema state moment reply (Err fault) kept h = kept
