@@ -1,5 +1,5 @@
--- What a transaction leaves is such as the schema allows, where its actions are.
-use Rattle.std.proofs.Common.{◌≡◌, ℕ, zero, suc, Bool, true, false, List, [], ◌∷◌, length, All, Option, Some, None, Result, Ok, Err, refl, sym, ap, ◌∙◌, subst, set, length-set, arith}
+-- What a transaction leaves is such as the schema allows, where its actions are, under numbers that are counted from 1.
+use Rattle.std.proofs.Common.{◌≡◌, ℕ, zero, suc, ◌≤◌, Bool, true, false, List, [], ◌∷◌, length, All, Option, Some, None, Result, Ok, Err, refl, sym, ap, ◌∙◌, subst, set, length-set, arith}
 use Rattle.std.specs.Prelude.{◌==◌, ◌&&◌, flat_map, if◌then◌else◌, slice_get}
 use Rattle.std.specs.List.{fold}
 use Rattle.std.specs.Option.{option_and_then}
@@ -14,6 +14,7 @@ use Rattle.feature_values.specs.declared.schema.Schema.{Schema}
 use Rattle.feature_values.specs.declared.fault.ValueFault.{ValueFault}
 use Rattle.feature_values.specs.declared.fault.ValueFault.TheVariants.{Unknown}
 use Rattle.feature_values.specs.Fits.{value_fits, values_fit, type_fits, type_fits_if, feature_fits}
+use Rattle.feature_overlay.specs.Changed.{IsOf}
 use Rattle.query_core.specs.Selecting.{to_list, passes_filter}
 use Rattle.wfs_model.specs.declared.action.Action.{Action}
 use Rattle.wfs_model.specs.declared.action.Action.TheVariants.{Insert, Update, Replace, Delete}
@@ -21,11 +22,21 @@ use Rattle.wfs_model.specs.Acts.{Acting, begun, numbered, inserted, selects, wit
 use Rattle.wfs_model.specs.Refusals.{not_one}
 use Rattle.wfs_model.specs.Plans.{Planning, planned, planned_all}
 use Rattle.wfs_model.specs.OfSchema.{set_fits, IsSetOf, IsNewOf, IsActionOf}
+use Rattle.wfs_model.proofs.Middle.{instead_keeps}
 use Rattle.wfs_model.proofs.Sound.{May, bind_ok, all_laid, done_is, after_features, after_counters}
 
 -- a feature that the schema allows
 abbrev pub Fits : Schema → Feature → Type 0
 Fits schema f = feature_fits schema f ≡ Ok tt
+
+-- a feature that the schema allows, under a number
+pub record IsNumbered (schema : Schema) (f : Feature) : Type 0 where
+  pub fits : Fits schema f
+  pub number : 1 ≤ f.id.number
+
+-- the same of all features, from what is said of each
+pub all_numbered : (schema : Schema) (fs : List Feature) → All (Fits schema) fs → All (λ f. 1 ≤ f.id.number) fs → All (IsNumbered schema) fs
+all_numbered schema fs fitting numbers k d lt = record { fits = fitting k d lt; number = numbers k d lt }
 
 -- ---- a value is set
 
@@ -83,11 +94,12 @@ pub numbered_fits : (schema : Schema) (counters : List ℕ) (f : Feature) → Fi
 unfolding feature_fits
 numbered_fits schema counters f fits = fits
 
-comes_fit : (schema : Schema) (handle : Option (List ℕ)) (at : Acting) (f : Feature) → Fits schema f → All (Fits schema) at.features → All (Fits schema) (inserted handle at f).features
+comes_fit : (schema : Schema) (handle : Option (List ℕ)) (at : Acting) (f : Feature) → Fits schema f → All (IsNumbered schema) at.features → All (IsNumbered schema) (inserted handle at f).features
 unfolding inserted
-comes_fit schema handle at f fits all = all_laid (Fits schema) at.features (numbered at.counters f) (numbered_fits schema at.counters f fits) all
+comes_fit schema handle at f fits all =
+    all_laid (IsNumbered schema) at.features (numbered at.counters f) (record { fits = numbered_fits schema at.counters f fits; number = omega arith }) all
 
-come_fit : (schema : Schema) (handle : Option (List ℕ)) (at : Acting) (fs : List Feature) → All (IsNewOf schema) fs → All (Fits schema) at.features → All (Fits schema) (fold (inserted handle) at fs).features
+come_fit : (schema : Schema) (handle : Option (List ℕ)) (at : Acting) (fs : List Feature) → All (IsNewOf schema) fs → All (IsNumbered schema) at.features → All (IsNumbered schema) (fold (inserted handle) at fs).features
 come_fit schema handle at [] new all = all
 come_fit schema handle at (f ∷ fs) new all =
     come_fit schema handle (inserted handle at f) fs (All-tail (IsNewOf schema) f fs new) (comes_fit schema handle at f (All-head (IsNewOf schema) f fs new).fits all)
@@ -119,28 +131,34 @@ instead_fits schema (Replace handle feature passing) f g of_schema fits aim is =
     subst (Fits schema) now (replaced_fits schema f feature kinds of_schema.0.fits)
 instead_fits schema (Delete kind passing) f g of_schema fits aim is = absurd cc
 
-left_fit : (schema : Schema) (action : Action) (f : Feature) → IsActionOf schema action → Fits schema f → All (Fits schema) (left_of action f)
+-- and leaves it under its number
+instead_numbered : (schema : Schema) (action : Action) (f g : Feature) → IsActionOf schema action → IsNumbered schema f → selects action f ≡ true → instead action f ≡ Some g → IsNumbered schema g
+instead_numbered schema action f g of_schema one aim is =
+    let same : g.id ≡ f.id = subst (IsOf f.id) is (instead_keeps action f) in
+    record { fits = instead_fits schema action f g of_schema one.fits aim is; number = rw same one.number }
+
+left_fit : (schema : Schema) (action : Action) (f : Feature) → IsActionOf schema action → IsNumbered schema f → All (IsNumbered schema) (left_of action f)
 unfolding left_of
-left_fit schema action f of_schema fits = by_aim (selects action f) refl
+left_fit schema action f of_schema one = by_aim (selects action f) refl
   where
-    listed : (o : Option Feature) → selects action f ≡ true → instead action f ≡ o → All (Fits schema) (to_list o)
-    listed None aim is = All-nil (Fits schema)
-    listed (Some g) aim is = All-cons (Fits schema) g [] (instead_fits schema action f g of_schema fits aim is) (All-nil (Fits schema))
+    listed : (o : Option Feature) → selects action f ≡ true → instead action f ≡ o → All (IsNumbered schema) (to_list o)
+    listed None aim is = All-nil (IsNumbered schema)
+    listed (Some g) aim is = All-cons (IsNumbered schema) g [] (instead_numbered schema action f g of_schema one aim is) (All-nil (IsNumbered schema))
 
-    by_aim : (b : Bool) → selects action f ≡ b → All (Fits schema) (if b then to_list (instead action f) else f ∷ [])
+    by_aim : (b : Bool) → selects action f ≡ b → All (IsNumbered schema) (if b then to_list (instead action f) else f ∷ [])
     by_aim true aim = listed (instead action f) aim refl
-    by_aim false aim = All-cons (Fits schema) f [] fits (All-nil (Fits schema))
+    by_aim false aim = All-cons (IsNumbered schema) f [] one (All-nil (IsNumbered schema))
 
-all_left_fit : (schema : Schema) (action : Action) (fs : List Feature) → IsActionOf schema action → All (Fits schema) fs → All (Fits schema) (flat_map (left_of action) fs)
-all_left_fit schema action [] of_schema all = All-nil (Fits schema)
+all_left_fit : (schema : Schema) (action : Action) (fs : List Feature) → IsActionOf schema action → All (IsNumbered schema) fs → All (IsNumbered schema) (flat_map (left_of action) fs)
+all_left_fit schema action [] of_schema all = All-nil (IsNumbered schema)
 all_left_fit schema action (f ∷ fs) of_schema all =
-    All-append (Fits schema) (left_of action f) (flat_map (left_of action) fs) (left_fit schema action f of_schema (All-head (Fits schema) f fs all)) (all_left_fit schema action fs of_schema (All-tail (Fits schema) f fs all))
+    All-append (IsNumbered schema) (left_of action f) (flat_map (left_of action) fs) (left_fit schema action f of_schema (All-head (IsNumbered schema) f fs all)) (all_left_fit schema action fs of_schema (All-tail (IsNumbered schema) f fs all))
 
 -- ---- actions
 
--- the features are such as the schema allows, and there are so many counters
+-- the features are such as the schema allows, under numbers, and there are so many counters
 pub record IsAllowed (schema : Schema) (types : ℕ) (acting : Acting) : Type 0 where
-  pub fitting : All (Fits schema) acting.features
+  pub fitting : All (IsNumbered schema) acting.features
   pub counters : length acting.counters ≡ types
 
 come_counted : (handle : Option (List ℕ)) (at : Acting) (fs : List Feature) → length (fold (inserted handle) at fs).counters ≡ length at.counters
@@ -150,7 +168,7 @@ come_counted handle at (f ∷ fs) = come_counted handle (inserted handle at f) f
 
 change_allowed : (schema : Schema) (types : ℕ) (action : Action) (at : Acting) → IsActionOf schema action → IsAllowed schema types at → IsAllowed schema types (changed action at)
 change_allowed schema types action at of_schema allowed = record {
-  fitting = subst (λ (l : List Feature). All (Fits schema) l) (sym (after_features action at)) (all_left_fit schema action at.features of_schema allowed.fitting);
+  fitting = subst (λ (l : List Feature). All (IsNumbered schema) l) (sym (after_features action at)) (all_left_fit schema action at.features of_schema allowed.fitting);
   counters = ap length (after_counters action at) ∙ allowed.counters;
 }
 
@@ -184,7 +202,7 @@ each_allowed schema types may plan done (action ∷ actions) of_schema allowed i
     each_allowed schema types may one.0 done actions (All-tail (IsActionOf schema) action actions of_schema) (plan_allowed schema types may plan one.0 action (All-head (IsActionOf schema) action actions of_schema) allowed one.1) one.2
 
 -- what actions of a schema leave of features that it allows are features that it allows
-pub all_allowed : (schema : Schema) (may : May) (features : List Feature) (counters : List ℕ) (actions : List Action) (done : Planning) → All (IsActionOf schema) actions → All (Fits schema) features → planned_all may features counters actions ≡ Ok done → IsAllowed schema (length counters) done.at
+pub all_allowed : (schema : Schema) (may : May) (features : List Feature) (counters : List ℕ) (actions : List Action) (done : Planning) → All (IsActionOf schema) actions → All (IsNumbered schema) features → planned_all may features counters actions ≡ Ok done → IsAllowed schema (length counters) done.at
 unfolding planned_all
 all_allowed schema may features counters actions done of_schema fitting is =
     each_allowed schema (length counters) may (record { at = begun features counters; parts = []; touched = [] }) done actions of_schema (record { fitting = fitting; counters = refl }) is

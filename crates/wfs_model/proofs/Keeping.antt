@@ -1,9 +1,9 @@
 -- A step keeps well what outlives the process, where its request is one of the schema.
-use Rattle.std.proofs.Common.{◌≡◌, ℕ, ◌<◌, Bool, true, false, not, List, [], ◌∷◌, ◌++◌, length, get_or, All, Option, Some, None, Result, Ok, Err, refl, sym, ◌∙◌, subst}
+use Rattle.std.proofs.Common.{◌≡◌, ℕ, ◌<◌, ◌≤◌, Bool, true, false, not, List, [], ◌∷◌, ◌++◌, length, get_or, All, Option, Some, None, Result, Ok, Err, refl, sym, ◌∙◌, subst}
 use Rattle.std.specs.Prelude.{◌||◌, if◌then◌else◌, slice_get}
-use Rattle.std.specs.List.{AllPairs}
+use Rattle.std.specs.List.{AllPairs, list_any}
 use Rattle.std.specs.Str.{bytes_eq}
-use Rattle.std.proofs.lemmas.List.Elements.{All-nil, All-cons, All-head, All-tail, All-append, All-filter}
+use Rattle.std.proofs.lemmas.List.Elements.{All-nil, All-cons, All-head, All-tail, All-append, All-weaker, All-filter}
 use Rattle.std.proofs.lemmas.List.Kept.{AllPairs-filter}
 use Rattle.std.proofs.lemmas.List.Quantifiers.{all_pairs_push}
 use Rattle.std.proofs.lemmas.Option.{slice_get_within}
@@ -33,7 +33,7 @@ use Rattle.wfs_model.specs.Locking.{named_if}
 use Rattle.wfs_model.specs.Step.{Done, lock_taken, page_locked, lock_renewed, plan_with, plan_of, carried_out, with_stored, settled, step}
 use Rattle.wfs_model.proofs.Playing.{IsCounted}
 use Rattle.wfs_model.proofs.Sound.{IsSound, bind_ok, all_play}
-use Rattle.wfs_model.proofs.Fitting.{Fits, IsAllowed, all_allowed}
+use Rattle.wfs_model.proofs.Fitting.{Fits, IsNumbered, all_numbered, IsAllowed, all_allowed}
 use Rattle.wfs_model.proofs.Stepping.{sound_kept, lock_keeps, page_keeps, renewal_keeps, created_at, dropped_is}
 
 -- ---- features
@@ -47,11 +47,15 @@ kind_within schema f fits = by_type (slice_get schema.types f.id.kind) refl fits
     by_type None there is = absurd cc
     by_type (Some of_type) there is = slice_get_within schema.types f.id.kind of_type there
 
-all_given : (schema : Schema) (counters : List ℕ) (fs : List Feature) → length counters ≡ length schema.types → All (Fits schema) fs → All (IsCounted counters) fs → All (λ f. IsGiven counters f.id) fs
+all_given : (schema : Schema) (counters : List ℕ) (fs : List Feature) → length counters ≡ length schema.types → All (IsNumbered schema) fs → All (IsCounted counters) fs → All (λ f. IsGiven counters f.id) fs
 all_given schema counters fs counted fitting given k d lt =
     let f : Feature = get_or fs k d in
-    let within : f.id.kind < length counters = (let there = kind_within schema f (fitting k d lt) in rw counted there) in
-    given k d lt within
+    let one : IsNumbered schema f = fitting k d lt in
+    let within : f.id.kind < length counters = (let there = kind_within schema f one.fits in rw counted there) in
+    (one.number, given k d lt within)
+
+numbered_kept : (schema : Schema) (kept : Durable) → IsKept schema kept → All (IsNumbered schema) kept.features
+numbered_kept schema kept is = all_numbered schema kept.features is.fitting (All-weaker (λ (f : Feature). IsGiven kept.counters f.id) (λ (f : Feature). 1 ≤ f.id.number) (λ f given. given.0) kept.features is.given)
 
 -- ---- stored queries
 
@@ -62,7 +66,7 @@ abbrev pub Made : StoredQuery → Type 0
 Made query = is_id_query query.id ≡ false
 
 -- stored queries that are kept well
-record AreKept (schema : Schema) (stored : List StoredQuery) : Type 0 where
+pub record AreKept (schema : Schema) (stored : List StoredQuery) : Type 0 where
   pub allowed : All (IsStoredOf schema) stored
   pub different : AllPairs Different stored
   pub made : All Made stored
@@ -71,11 +75,11 @@ neither : (a b : Bool) → (a || b) ≡ false → (a ≡ false) × (b ≡ false)
 neither true b is = absurd cc
 neither false b is = (refl, is)
 
-none_there : (stored : List StoredQuery) (id : List ℕ) → is_there stored id ≡ false → All (λ query. bytes_eq query.id id ≡ false) stored
-none_there [] id none = All-nil (λ (query : StoredQuery). bytes_eq query.id id ≡ false)
-none_there (query ∷ stored) id none =
-    let parts = neither (has_id id query) (is_there stored id) none in
-    All-cons (λ (q : StoredQuery). bytes_eq q.id id ≡ false) query stored parts.0 (none_there stored id parts.1)
+pub none_passes : {X : Type 0} (p : X → Bool) (xs : List X) → list_any p xs ≡ false → All (λ x. p x ≡ false) xs
+none_passes {X} p [] none = All-nil (λ (x : X). p x ≡ false)
+none_passes {X} p (x ∷ xs) none =
+    let parts = neither (p x) (list_any p xs) none in
+    All-cons (λ (y : X). p y ≡ false) x xs parts.0 (none_passes p xs parts.1)
 
 unknown : (b : Bool) (fault : StoredFault) (stored now : List StoredQuery) → (let r : Result (List StoredQuery) StoredFault = if b then Err fault else Ok stored in r) ≡ Ok now → b ≡ false
 unknown true fault stored now is = absurd cc
@@ -89,18 +93,18 @@ one_created schema stored now query allowed kept is =
     let same : stored ++ query ∷ [] ≡ now = created_at (is_known stored query.id) (DuplicateId query.id) (stored ++ query ∷ []) now is in
     subst (AreKept schema) same (record {
       allowed = All-append (IsStoredOf schema) stored (query ∷ []) kept.allowed (All-cons (IsStoredOf schema) query [] allowed (All-nil (IsStoredOf schema)));
-      different = all_pairs_push Different stored query kept.different (none_there stored query.id parts.1);
+      different = all_pairs_push Different stored query kept.different (none_passes (has_id query.id) stored parts.1);
       made = All-append Made stored (query ∷ []) kept.made (All-cons Made query [] parts.0 (All-nil Made));
     })
 
-all_created : (schema : Schema) (stored queries now : List StoredQuery) → All (IsStoredOf schema) queries → AreKept schema stored → created stored queries ≡ Ok now → AreKept schema now
+pub all_created : (schema : Schema) (stored queries now : List StoredQuery) → All (IsStoredOf schema) queries → AreKept schema stored → created stored queries ≡ Ok now → AreKept schema now
 unfolding created each
 all_created schema stored [] now allowed kept is = let same : stored ≡ now = cc in subst (AreKept schema) same kept
 all_created schema stored (query ∷ queries) now allowed kept is =
     let one = bind_ok (created_one stored query) _ now is in
     all_created schema one.0 queries now (All-tail (IsStoredOf schema) query queries allowed) (one_created schema stored one.0 query (All-head (IsStoredOf schema) query queries allowed) kept one.1) one.2
 
-drop_kept : (schema : Schema) (stored now : List StoredQuery) (id : List ℕ) → AreKept schema stored → dropped stored id ≡ Ok now → AreKept schema now
+pub drop_kept : (schema : Schema) (stored now : List StoredQuery) (id : List ℕ) → AreKept schema stored → dropped stored id ≡ Ok now → AreKept schema now
 drop_kept schema stored now id kept is =
     let left : StoredQuery → Bool = λ query. not (has_id id query) in
     subst (AreKept schema) (dropped_is stored now id is) (record {
@@ -128,7 +132,7 @@ plan_kept : (schema : Schema) (state : State) (moment : ℕ) (lock : Option Lock
 unfolding carried_out
 plan_kept schema state moment lock release plan kept sound allowed = record {
   order = sound.order;
-  fitting = allowed.fitting;
+  fitting = All-weaker (IsNumbered schema) (Fits schema) (λ f one. one.fits) plan.at.features allowed.fitting;
   given = all_given schema plan.at.counters plan.at.features (allowed.counters ∙ kept.counters) allowed.fitting sound.counted;
   counters = allowed.counters ∙ kept.counters;
   stored = kept.stored;
@@ -143,7 +147,7 @@ transact_kept schema state moment lock release actions kept of_schema =
     let one = bind_ok (plan_of schema state moment lock actions) _ done is in
     let two = bind_ok (named_if state moment lock) _ one.0 one.1 in
     let plays = all_play (durable state) (permitted schema state.locks moment two.0) state.features state.counters actions one.0 (sound_kept schema (durable state) kept) two.2 in
-    let allowed = all_allowed schema (permitted schema state.locks moment two.0) state.features state.counters actions one.0 of_schema.actions kept.fitting two.2 in
+    let allowed = all_allowed schema (permitted schema state.locks moment two.0) state.features state.counters actions one.0 of_schema.actions (numbered_kept schema (durable state) kept) two.2 in
     subst (λ (d : Done). IsKept schema (durable d.1)) (ok_done (carried_out state moment lock release one.0) done one.2) (plan_kept schema state moment lock release one.0 kept plays.sound allowed))
 
 with_stored_kept : (schema : Schema) (state : State) (moment : ℕ) (reply : Reply) (r : Result (List StoredQuery) StoredFault) → IsKept schema (durable state) → ((now : List StoredQuery) → r ≡ Ok now → AreKept schema now) → Keeps schema state (settled state moment (or_refused r >>= λ stored. Ok (with_stored state reply stored)))
@@ -152,7 +156,7 @@ with_stored_kept schema state moment reply (Ok now) kept h =
     let are = h now refl in
     record { order = kept.order; fitting = kept.fitting; given = kept.given; counters = kept.counters; stored = are.allowed; different = are.different; made = are.made }
 
-are_kept : (schema : Schema) (kept : Durable) → IsKept schema kept → AreKept schema kept.stored
+pub are_kept : (schema : Schema) (kept : Durable) → IsKept schema kept → AreKept schema kept.stored
 are_kept schema kept is = record { allowed = is.stored; different = is.different; made = is.made }
 
 -- a step keeps well what is kept well

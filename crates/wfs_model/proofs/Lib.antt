@@ -2,6 +2,7 @@ pub mod Fitting
 pub mod Keeping
 pub mod Middle
 mod Numerals
+pub mod Playable
 pub mod Playing
 pub mod Refusing
 pub mod Sound

@@ -42,7 +42,7 @@ raised_at counters kind number false is given = set_beyond counters kind (max (g
 raised_same : (counters : List ℕ) (f : Feature) → IsCounted counters f → raised counters f.id.kind f.id.number ≡ counters
 raised_same counters f given = raised_at counters f.id.kind f.id.number (nat_lt f.id.kind (length counters)) refl given
 
-raise_more : (cs : List ℕ) (k v j : ℕ) → get_or cs k 0 ≤ v → get_or cs j 0 ≤ get_or (set cs k v) j 0
+pub raise_more : (cs : List ℕ) (k v j : ℕ) → get_or cs k 0 ≤ v → get_or cs j 0 ≤ get_or (set cs k v) j 0
 raise_more [] k v j le = omega arith
 raise_more (c ∷ cs) zero v zero le = le
 raise_more (c ∷ cs) zero v (suc j) le = omega arith

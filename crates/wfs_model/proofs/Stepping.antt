@@ -29,7 +29,7 @@ use Rattle.wfs_model.specs.declared.request.Take.{Take}
 use Rattle.wfs_model.specs.declared.request.Request.{Request}
 use Rattle.wfs_model.specs.declared.request.Request.TheVariants.{Capabilities, DescribeTypes, GetFeatures, GetValues, GetLocked, Lock, Renew, Transact, ListStored, DescribeStored, CreateStored, DropStored}
 use Rattle.wfs_model.specs.State.{State, Durable, durable}
-use Rattle.wfs_model.specs.Kept.{IsKept}
+use Rattle.wfs_model.specs.Kept.{IsGiven, IsKept}
 use Rattle.wfs_model.specs.Refusals.{or_refused}
 use Rattle.wfs_model.specs.Stored.{is_known, is_there, created_one, created, without_query, dropped}
 use Rattle.wfs_model.specs.Expand.{all_expanded}
@@ -120,7 +120,7 @@ pub created_at : (b : Bool) (fault : StoredFault) (stored now : List StoredQuery
 created_at true fault stored now e = absurd cc
 created_at false fault stored now e = cc
 
-created_all : (stored queries now : List StoredQuery) → created stored queries ≡ Ok now → now ≡ stored ++ queries
+pub created_all : (stored queries now : List StoredQuery) → created stored queries ≡ Ok now → now ≡ stored ++ queries
 unfolding created each created_one
 created_all stored [] now e = (let same : stored ≡ now = cc in sym same) ∙ sym (append_none stored)
 created_all stored (query ∷ queries) now e =
@@ -182,7 +182,7 @@ after_follows schema state (entry ∷ entries) sound =
     ∙ sym (fold-append played_one (durable state) (option_to_list (change_of schema state entry.moment entry.request)) (accepted schema (stepped schema state entry) entries))
 
 pub sound_kept : (schema : Schema) (kept : Durable) → IsKept schema kept → IsSoundKept kept
-sound_kept schema kept is = record { order = is.order; counted = All-weaker (λ (f : Feature). f.id.number ≤ get_or kept.counters f.id.kind 0) (IsCounted kept.counters) (λ f given there. given) kept.features is.given }
+sound_kept schema kept is = record { order = is.order; counted = All-weaker (λ (f : Feature). IsGiven kept.counters f.id) (IsCounted kept.counters) (λ f given there. given.1) kept.features is.given }
 
 -- what outlives the process after entries is what their changes leave
 pub all_follow : (schema : Schema) (opening : State) (entries : List Entry) (n : ℕ) → IsKept schema (durable opening) → durable (after_all schema opening (take n entries)) ≡ played (durable opening) (accepted schema opening (take n entries))

@@ -10,9 +10,9 @@ use Rattle.wfs_model.specs.State.{Durable}
 use Rattle.wfs_model.specs.Stored.{is_id_query}
 use Rattle.wfs_model.specs.OfSchema.{IsStoredOf}
 
--- a number that was given
+-- a number that was given: numbers are counted from 1, and none is given that the type's counter has not reached
 abbrev pub IsGiven : List ℕ → Rid → Type 0
-IsGiven counters id = id.number ≤ get_or counters id.kind 0
+IsGiven counters id = (1 ≤ id.number) × (id.number ≤ get_or counters id.kind 0)
 
 pub record IsKept (schema : Schema) (kept : Durable) : Type 0 where
   -- the features stand in default order, each once, and each is one of the schema under a number that was given

@@ -9,6 +9,7 @@ pub mod Links
 pub mod Locking
 pub mod OfSchema
 pub mod Plans
+pub mod Playable
 pub mod Played
 pub mod Read
 pub mod Refusals

@@ -1,18 +1,20 @@
 //! Laws of the definitions. Each is the contract of a function that does nothing.
 
-ghost use Rattle.std.specs.Prelude.{◌≡◌, ℕ, List, take};
+ghost use Rattle.std.specs.Prelude.{◌≡◌, ℕ, List, take, true};
 ghost use Rattle.feature_values.specs.declared.schema.Schema.{Schema};
+ghost use Rattle.wfs_model.specs.declared.change.Change.{Change};
 ghost use Rattle.wfs_model.specs.declared.entry.Entry.{Entry};
 ghost use Rattle.wfs_model.specs.declared.reply.Refusal.{Refusal};
 ghost use Rattle.wfs_model.specs.declared.reply.Reply.TheVariants.{Refused};
 ghost use Rattle.wfs_model.specs.declared.request.Request.{Request};
-ghost use Rattle.wfs_model.specs.State.{State, durable};
+ghost use Rattle.wfs_model.specs.State.{State, Durable, durable};
 ghost use Rattle.wfs_model.specs.Kept.{IsKept};
 ghost use Rattle.wfs_model.specs.OfSchema.{IsOfSchema};
 ghost use Rattle.wfs_model.specs.Changing.{IsChange};
 ghost use Rattle.wfs_model.specs.Step.{step};
 ghost use Rattle.wfs_model.specs.History.{after};
-ghost use Rattle.wfs_model.specs.Played.{accepted, played};
+ghost use Rattle.wfs_model.specs.Played.{accepted, played, played_one};
+ghost use Rattle.wfs_model.specs.Playable.{AreQueriesOf, is_playable};
 
 /// What outlives the process is, after each beginning of a history, what the changes of its entries leave: nothing else is
 /// needed to have it again.
@@ -34,4 +36,9 @@ pub fn each_step_sets_the_moment()
 /// given, and stored queries are such as it allows, under identifiers of their own.
 pub fn steps_keep_what_is_kept_well()
     ensures { (schema : Schema) (state : State) (moment : ℕ) (request : Request) → IsKept schema (durable state) → IsOfSchema schema request → IsKept schema (durable (step schema state moment request).1) }
+{}
+
+/// A change that may be played keeps well what outlives the process, where what its stored queries ask is such as the schema allows.
+pub fn playing_keeps_what_is_kept_well()
+    ensures { (schema : Schema) (kept : Durable) (change : Change) → IsKept schema kept → AreQueriesOf schema change → is_playable schema kept change ≡ true → IsKept schema (played_one kept change) }
 {}
