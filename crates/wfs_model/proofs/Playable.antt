@@ -1,6 +1,6 @@
 -- A change that may be played keeps well what is kept.
-use Rattle.std.proofs.Common.{◌≡◌, ℕ, ◌<◌, ◌≤◌, Bool, true, false, not, List, [], ◌∷◌, ◌++◌, length, get_or, filter, All, Option, Some, None, Result, Ok, Err, refl, sym, ap, ◌∙◌, subst, set, length-set, arith}
-use Rattle.std.specs.Prelude.{◌&&◌, ◌==◌, max, nat_le, nat_lt, slice_set}
+use Rattle.std.proofs.Common.{◌≡◌, ℕ, ◌<◌, ◌≤◌, true, false, not, List, [], ◌∷◌, ◌++◌, length, get_or, filter, All, Some, None, Result, Ok, Err, refl, ◌∙◌, subst, length-set, arith}
+use Rattle.std.specs.Prelude.{◌&&◌, ◌==◌, max, nat_le, nat_lt}
 use Rattle.std.specs.List.{AllPairs, fold, list_all, list_any}
 use Rattle.std.proofs.lemmas.Bool.{and_parts, not-true}
 use Rattle.std.proofs.lemmas.List.{get_or-set_same}
@@ -11,7 +11,7 @@ use Rattle.feature_values.specs.declared.feature.Rid.{Rid}
 use Rattle.feature_values.specs.declared.schema.Schema.{Schema}
 use Rattle.feature_values.specs.declared.fault.ValueFault.{ValueFault}
 use Rattle.feature_values.specs.Fits.{feature_fits}
-use Rattle.fes_filter.specs.View.{is_before, feature_at}
+use Rattle.fes_filter.specs.View.{is_before}
 use Rattle.feature_overlay.specs.Laid.{laid}
 use Rattle.feature_overlay.proofs.Layings.{laid_in_order}
 use Rattle.wfs_model.specs.declared.change.Part.{Part}

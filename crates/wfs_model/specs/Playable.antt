@@ -1,9 +1,7 @@
 -- Which changes may be played on what is kept, so that it stays well kept. A journal with another one is not this schema's. The limit on numbers
 -- is this project's own.
-use Rattle.std.specs.Prelude.{ℕ, ◌+◌, Bool, true, false, ◌&&◌, ◌==◌, not, nat_le, nat_lt, List, [], ◌∷◌, length, All, Option, is_some, Result, Ok, Err, ⊤}
+use Rattle.std.specs.Prelude.{ℕ, ◌+◌, Bool, true, false, ◌&&◌, ◌==◌, not, nat_le, nat_lt, List, [], ◌∷◌, length, All, is_some, Result, Ok, Err, ⊤}
 use Rattle.std.specs.List.{list_all, list_any}
-use Rattle.feature_values.specs.declared.feature.Feature.{Feature}
-use Rattle.feature_values.specs.declared.feature.Rid.{Rid}
 use Rattle.feature_values.specs.declared.schema.Schema.{Schema}
 use Rattle.feature_values.specs.Fits.{feature_fits}
 use Rattle.fes_filter.specs.View.{feature_at}
