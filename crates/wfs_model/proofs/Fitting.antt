@@ -186,7 +186,7 @@ act_allowed schema types (Delete kind passing) at done of_schema allowed is = le
 
 -- ---- all actions
 
-plan_allowed : (schema : Schema) (types : ℕ) (may : May) (plan next : Planning) (action : Action) → IsActionOf schema action → IsAllowed schema types plan.at → planned may plan action ≡ Ok next → IsAllowed schema types next.at
+pub plan_allowed : (schema : Schema) (types : ℕ) (may : May) (plan next : Planning) (action : Action) → IsActionOf schema action → IsAllowed schema types plan.at → planned may plan action ≡ Ok next → IsAllowed schema types next.at
 unfolding planned
 plan_allowed schema types may plan next action of_schema allowed is =
     let one = bind_ok (acted plan.at action) _ next is in

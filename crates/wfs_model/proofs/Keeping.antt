@@ -54,7 +54,7 @@ all_given schema counters fs counted fitting given k d lt =
     let within : f.id.kind < length counters = (let there = kind_within schema f one.fits in rw counted there) in
     (one.number, given k d lt within)
 
-numbered_kept : (schema : Schema) (kept : Durable) → IsKept schema kept → All (IsNumbered schema) kept.features
+pub numbered_kept : (schema : Schema) (kept : Durable) → IsKept schema kept → All (IsNumbered schema) kept.features
 numbered_kept schema kept is = all_numbered schema kept.features is.fitting (All-weaker (λ (f : Feature). IsGiven kept.counters f.id) (λ (f : Feature). 1 ≤ f.id.number) (λ f given. given.0) kept.features is.given)
 
 -- ---- stored queries

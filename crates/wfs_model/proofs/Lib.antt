@@ -1,5 +1,6 @@
 pub mod Fitting
 pub mod Keeping
+pub mod Making
 pub mod Middle
 mod Numerals
 pub mod Playable

@@ -80,7 +80,7 @@ part_played_at kept f (Some g) of counted =
     ap (λ (counters : List ℕ). record (at kept (laid kept.features g.id (Some g))) { counters = counters }) (ap (λ (id : Rid). raised kept.counters id.kind id.number) of ∙ raised_same kept.counters f counted)
     ∙ ap (λ (id : Rid). at kept (laid kept.features id (Some g))) of
 
-one_part : (kept : Durable) (action : Action) (before : List Feature) (f : Feature) (fs : List Feature) → IsInOrder (before ++ f ∷ fs) → IsCounted kept.counters f → part_played (at kept (before ++ f ∷ fs)) (part action f) ≡ at kept ((before ++ to_list (instead action f)) ++ fs)
+pub one_part : (kept : Durable) (action : Action) (before : List Feature) (f : Feature) (fs : List Feature) → IsInOrder (before ++ f ∷ fs) → IsCounted kept.counters f → part_played (at kept (before ++ f ∷ fs)) (part action f) ≡ at kept ((before ++ to_list (instead action f)) ++ fs)
 one_part kept action before f fs order counted = part_played_at (at kept (before ++ f ∷ fs)) f (instead action f) (instead_keeps action f) counted ∙ ap (at kept) (now_laid action before f fs order)
 
 -- what comes of the rest, whatever stands before it

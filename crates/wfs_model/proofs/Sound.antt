@@ -49,7 +49,7 @@ all_laid P fs g here all =
     All-append P (filter (λ f. is_before f.id g.id) fs) (g ∷ filter (λ f. is_before g.id f.id) fs) (all_filter P (λ f. is_before f.id g.id) fs all)
     (All-cons P g (filter (λ f. is_before g.id f.id) fs) here (all_filter P (λ f. is_before g.id f.id) fs all))
 
-one_comes : (kept : Durable) (handle : Option (List ℕ)) (acting : Acting) (f : Feature) → part_played (onto kept acting) (Put (numbered acting.counters f)) ≡ onto kept (inserted handle acting f)
+pub one_comes : (kept : Durable) (handle : Option (List ℕ)) (acting : Acting) (f : Feature) → part_played (onto kept acting) (Put (numbered acting.counters f)) ≡ onto kept (inserted handle acting f)
 unfolding part_played inserted
 one_comes kept handle acting f =
     ap (λ n. record kept { features = laid acting.features (numbered acting.counters f).id (Some (numbered acting.counters f)); counters = set acting.counters f.id.kind n }) (next_is (get_or acting.counters f.id.kind 0))
@@ -137,7 +137,7 @@ acts kept (Delete kind passing) acting done sound is = let action : Action = Del
 abbrev pub May : Type 0
 May = List Rid → Result (Unit {0}) Refusal
 
-plan_plays : (kept : Durable) (may : May) (start : Acting) (plan next : Planning) (action : Action) → Plays kept plan.parts start plan.at → planned may plan action ≡ Ok next → Plays kept next.parts start next.at
+pub plan_plays : (kept : Durable) (may : May) (start : Acting) (plan next : Planning) (action : Action) → Plays kept plan.parts start plan.at → planned may plan action ≡ Ok next → Plays kept next.parts start next.at
 unfolding planned
 plan_plays kept may start plan next action so_far is =
     let one = bind_ok (acted plan.at action) _ next is in

@@ -1,6 +1,6 @@
 //! Laws of the definitions. Each is the contract of a function that does nothing.
 
-ghost use Rattle.std.specs.Prelude.{◌≡◌, ℕ, List, take, true};
+ghost use Rattle.std.specs.Prelude.{◌≡◌, ◌≤◌, ℕ, List, All, Some, take, true};
 ghost use Rattle.feature_values.specs.declared.schema.Schema.{Schema};
 ghost use Rattle.wfs_model.specs.declared.change.Change.{Change};
 ghost use Rattle.wfs_model.specs.declared.entry.Entry.{Entry};
@@ -13,8 +13,8 @@ ghost use Rattle.wfs_model.specs.OfSchema.{IsOfSchema};
 ghost use Rattle.wfs_model.specs.Changing.{IsChange};
 ghost use Rattle.wfs_model.specs.Step.{step};
 ghost use Rattle.wfs_model.specs.History.{after};
-ghost use Rattle.wfs_model.specs.Played.{accepted, played, played_one};
-ghost use Rattle.wfs_model.specs.Playable.{AreQueriesOf, is_playable};
+ghost use Rattle.wfs_model.specs.Played.{accepted, change_of, played, played_one};
+ghost use Rattle.wfs_model.specs.Playable.{AreQueriesOf, is_playable, most_number};
 
 /// What outlives the process is, after each beginning of a history, what the changes of its entries leave: nothing else is
 /// needed to have it again.
@@ -41,4 +41,9 @@ pub fn steps_keep_what_is_kept_well()
 /// A change that may be played keeps well what outlives the process, where what its stored queries ask is such as the schema allows.
 pub fn playing_keeps_what_is_kept_well()
     ensures { (schema : Schema) (kept : Durable) (change : Change) → IsKept schema kept → AreQueriesOf schema change → is_playable schema kept change ≡ true → IsKept schema (played_one kept change) }
+{}
+
+/// The change that a step makes may be played, where no number that was given then is beyond the limit.
+pub fn changes_of_steps_may_be_played()
+    ensures { (schema : Schema) (state : State) (moment : ℕ) (request : Request) (change : Change) → IsKept schema (durable state) → IsOfSchema schema request → change_of schema state moment request ≡ Some change → All (λ n. n ≤ most_number) (step schema state moment request).1.counters → is_playable schema (durable state) change ≡ true }
 {}
