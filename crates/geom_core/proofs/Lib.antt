@@ -10,4 +10,5 @@ pub mod Meeting
 pub mod Numbers
 pub mod Parts
 pub mod Passing
+pub mod Valid
 pub mod Walks

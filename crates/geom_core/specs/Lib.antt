@@ -5,3 +5,4 @@ pub mod Shapes
 pub mod Places
 pub mod Extents
 pub mod Blocks
+pub mod Valid

@@ -1,6 +1,6 @@
 //! Line strings.
-ghost use Rattle.std.specs.Prelude.{◌≡◌, slice_get};
-ghost use Rattle.geom_core.specs.Shapes.{line_of};
+ghost use Rattle.std.specs.Prelude.{◌≡◌, slice_get, length};
+ghost use Rattle.geom_core.specs.Shapes.{line_of, IsLine};
 ghost use Rattle.geom_core.specs.Plane.{least_box};
 ghost use Rattle.geom_core.specs.Extents.{IsLeastBox};
 
@@ -48,6 +48,14 @@ impl Line {
         ensures { result.now ≡ self.now }
     {
         self.path.positions()
+    }
+
+    /// How many positions it has.
+    pub fn count(&self) -> usize
+        ensures value { result ≡ length self.now }
+        ensures line { IsLine self.now }
+    {
+        self.path.positions().len()
     }
 
     /// The first position.

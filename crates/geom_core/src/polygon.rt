@@ -1,7 +1,7 @@
 //! Polygons: a shell and holes that lie within it, valid once made.
 ghost use Rattle.std.specs.Prelude.{◌≡◌, ◌+◌, ◌≤◌, length, sum_by, nat_lt, IsTrue};
 ghost use Rattle.std.specs.List.{list_all};
-ghost use Rattle.geom_core.specs.Shapes.{polygon_of, are_holes_within, is_hole_within};
+ghost use Rattle.geom_core.specs.Shapes.{polygon_of, are_holes_within, is_hole_within, IsPolygon};
 ghost use Rattle.geom_core.specs.Plane.{least_box, Point, IsInBox};
 ghost use Rattle.geom_core.specs.Extents.{IsLeastBox, positions_of_area};
 ghost use Rattle.geom_core.specs.Rings.{is_within, is_in_area};
@@ -58,6 +58,14 @@ impl Polygon {
         ensures { result.now ≡ self.now.holes }
     {
         self.holes.as_slice()
+    }
+
+    /// How many rings it has, the shell among them.
+    pub fn count_rings(&self) -> usize
+        ensures value { result ≡ length self.now.holes + 1 }
+        ensures polygon { IsPolygon self.now.shell self.now.holes }
+    {
+        self.holes.len() + 1
     }
 
     /// The least box that holds the polygon: the shell's.

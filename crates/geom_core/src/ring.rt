@@ -1,6 +1,6 @@
 //! Closed rings.
 ghost use Rattle.std.specs.Prelude.{◌≡◌, ◌<◌, ◌≤◌, length, slice_get, IsTrue};
-ghost use Rattle.geom_core.specs.Shapes.{ring_of, is_closed};
+ghost use Rattle.geom_core.specs.Shapes.{ring_of, is_closed, IsRing};
 ghost use Rattle.geom_core.specs.Plane.{least_box};
 ghost use Rattle.geom_core.specs.Extents.{IsLeastBox};
 ghost use Rattle.geom_core.specs.Places.{place_of};
@@ -63,6 +63,7 @@ impl Ring {
     pub fn count(&self) -> usize
         ensures value { result ≡ length self.now }
         ensures many { result ≤ 10_000 }
+        ensures ring { IsRing self.now }
     {
         self.path.positions().len()
     }

@@ -1,6 +1,6 @@
 -- The element of a geometry reads back as that geometry.
-use Rattle.std.proofs.Common.{◌≡◌, ℕ, true, false, List, [], ◌∷◌, ◌++◌, length, map, Ok, refl, sym, ap, ◌∙◌, append_assoc, arith}
-use Rattle.std.specs.Prelude.{codes, All, nat_lt, ◌+◌, sum_by}
+use Rattle.std.proofs.Common.{◌≡◌, ℕ, true, List, [], ◌∷◌, ◌++◌, map, Ok, refl, sym, ap, ◌∙◌, append_assoc}
+use Rattle.std.specs.Prelude.{codes, All}
 use Rattle.std.specs.List.{list_all}
 use Rattle.std.specs.Str.{bytes_eq}
 use Rattle.std.proofs.lemmas.List.{append-nil}
@@ -11,12 +11,13 @@ use Rattle.doc_tree.specs.declared.tree.Element.{Element, out-Element}
 use Rattle.doc_tree.specs.declared.tree.Element.TheOpen.{Element-F}
 use Rattle.doc_tree.specs.declared.tree.Element.TheViews.{out-roll-Element}
 use Rattle.geom_core.specs.Plane.{Point, IsPosition, Area}
-use Rattle.geom_core.specs.Shapes.{IsLine, IsRing, IsPolygon, is_closed, are_holes_within, line_of, ring_of, polygon_of}
+use Rattle.geom_core.specs.Valid.{IsLineOf, IsRingOf, IsAreaOf}
 use Rattle.geom_core.specs.declared.geometry.Geometry.TheVariants.{At, Along, Over}
+use Rattle.geom_core.proofs.Valid.{line_is, ring_is, area_is}
 use Rattle.doc_attributes.specs.Names.{is_name, is_among}
 use Rattle.gml_docs.specs.Elements.{gml_space, is_gml, is_fitting, fitted, entered, no_more, position_at, list_at, path_of, point_at, line_at, ring_at, only_ring, side_at, next_hole, area_of, polygon_at, geometry_of}
 use Rattle.gml_docs.specs.Written.{position_text, positions_text, gml_name, plain_name, element, leaf, parent, attributes_of, list_tree, side_tree, hole_tree, area_trees, tree_of}
-use Rattle.gml_docs.specs.RoundTrip.{IsRingOf, IsAreaOf, ReadsBack}
+use Rattle.gml_docs.specs.RoundTrip.{ReadsBack}
 use Rattle.gml_docs.proofs.Texts.{position_again, positions_again}
 
 -- ---- what an element says
@@ -95,13 +96,6 @@ module _ (names : List (List ℕ)) where
 
   -- ---- rings
 
-  ring_is : (ring : List Point) → IsRing ring → ring_of ring ≡ Ok ring
-  ring_is ring h =
-      let many : nat_lt 10_000 (length ring) ≡ false = grind (arith, h.many) in
-      let few : nat_lt (length ring) 4 ≡ false = grind (arith, h.few) in
-      let closed : is_closed ring ≡ true = h.closed in
-      rw (many, few, closed) refl
-
   ring_back : (ring : List Point) → IsRingOf ring → ring_at names (parent (codes "LinearRing") [] (list_tree ring ∷ [])) ≡ Ok ring
   unfolding ring_at parent
   ring_back ring h =
@@ -131,21 +125,9 @@ module _ (names : List (List ℕ)) where
       rw (side_back (codes "interior") refl hole (All-head IsRingOf hole holes h))
       (holes_back (found ++ hole ∷ []) holes (All-tail IsRingOf hole holes h) ∙ ap Ok (append_assoc found (hole ∷ []) holes))
 
-  area_is : (area : Area) → IsPolygon area.shell area.holes → polygon_of area.shell area.holes ≡ Ok area
-  area_is area h =
-      let many : nat_lt 10_000 (length area.shell + sum_by length area.holes) ≡ false = grind (arith, h.many) in
-      let inside : are_holes_within area.shell area.holes ≡ true = h.inside in
-      rw (many, inside) refl
-
   area_back : (area : Area) → IsAreaOf area → area_of names (area_trees area) ≡ Ok area
   unfolding area_of area_trees
   area_back area h = rw (side_back (codes "exterior") refl area.shell h.shell, holes_back [] area.holes h.holes, area_is area h.area) refl
-
-line_is : (line : List Point) → IsLine line → line_of line ≡ Ok line
-line_is line h =
-    let many : nat_lt 10_000 (length line) ≡ false = grind (arith, h.many) in
-    let few : nat_lt (length line) 2 ≡ false = grind (arith, h.few) in
-    rw (many, few) refl
 
 -- ---- the whole
 
@@ -165,17 +147,17 @@ module _ (names : List (List ℕ)) (id srs : List ℕ) (known : is_among names s
         no_more_at_end,
       ) refl
 
-  line_back : (line : List Point) → IsLine line → All IsPosition line → geometry_of names (tree_of (Along line) id srs) ≡ Ok (Along line)
+  line_back : (line : List Point) → IsLineOf line → geometry_of names (tree_of (Along line) id srs) ≡ Ok (Along line)
   unfolding geometry_of tree_of line_at parent
-  line_back line is positions =
+  line_back line h =
       let children : List Element = list_tree line ∷ [] in
       rw (
         is_named (codes "LineString") written children [] (codes "Point"),
         is_named (codes "LineString") written children [] (codes "LineString"),
         is_fitted (codes "LineString") written children [] names (attributes_fit names id srs known),
         has_children (codes "LineString") written children [],
-        path_back names line positions,
-        line_is line is,
+        path_back names line h.positions,
+        line_is line h.line,
       ) refl
 
   polygon_back : (area : Area) → IsAreaOf area → geometry_of names (tree_of (Over area) id srs) ≡ Ok (Over area)
@@ -193,5 +175,5 @@ module _ (names : List (List ℕ)) (id srs : List ℕ) (known : is_among names s
 
 pub reads_back : ReadsBack
 reads_back (At p) id srs names h known = point_back names id srs known p h
-reads_back (Along line) id srs names h known = line_back names id srs known line h.0 h.1
+reads_back (Along line) id srs names h known = line_back names id srs known line h
 reads_back (Over area) id srs names h known = polygon_back names id srs known area h
