@@ -33,6 +33,10 @@ pub length_point : (p : Point) → length (point_bytes p) ≡ 8
 unfolding point_bytes
 length_point p = length_two 4 4 _ _
 
+pub length_path : (path : List Point) → length (path_bytes path) ≡ 4 + length (flat_map point_bytes path)
+unfolding path_bytes
+length_path path = length_of_counted 4 point_bytes path
+
 pub length_id : (id : Rid) → length (id_bytes id) ≡ 10
 unfolding id_bytes
 length_id id = length_two 2 8 _ _

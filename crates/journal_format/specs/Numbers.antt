@@ -1,8 +1,12 @@
 -- Numbers of a record: the highest byte first.
-use Rattle.std.specs.Prelude.{ℕ, List, [], ◌∷◌, length, drop, nat_lt, if◌then◌else◌, Result, Ok, Err}
+use Rattle.std.specs.Prelude.{ℕ, ◌<◌, List, [], ◌∷◌, All, length, drop, nat_lt, if◌then◌else◌, Result, Ok, Err}
 use Rattle.byteorder.specs.Endian.{big_bytes, big_number}
 use Rattle.journal_format.specs.declared.fault.RecordFault.{RecordFault}
 use Rattle.journal_format.specs.declared.fault.RecordFault.TheVariants.{Cut}
+
+-- numbers below 256
+abbrev pub AreBytes : List ℕ → Type 0
+AreBytes bytes = All (λ b. b < 256) bytes
 
 -- the lowest n bytes of x, the highest of them first
 unfoldable pub be : ℕ → ℕ → List ℕ

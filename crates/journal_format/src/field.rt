@@ -1,7 +1,7 @@
 //! What stands in a record many times: its spelling, its length and its reading, and lists of it.
 
 ghost use Rattle.std.specs.Prelude.{◌≡◌, ◌+◌, ◌≤◌, ◌++◌, [], ℕ, List, length, vec_len, vec_capacity};
-ghost use Rattle.std.specs.List.{flat_map};
+ghost use Rattle.std.specs.List.{flat_map, All};
 ghost use Rattle.wfs_ends.specs.Ends.{capped};
 ghost use Rattle.wfs_ends.specs.Read.{GivesBut};
 ghost use Rattle.journal_format.specs.Numbers.{Reads};
@@ -20,6 +20,9 @@ pub trait Field: Sized {
     /// What is read of bytes.
     ghost reading: { List ℕ → Reads Self };
 
+    /// What every value of its type is.
+    ghost writable: { Self → Type 0 };
+
     /// How many bytes it takes, or the last number of 64 bits where that is less.
     fn length(&self) -> u64
         ensures { result ≡ capped (length (spelling self.now)) };
@@ -29,7 +32,8 @@ pub trait Field: Sized {
         requires { vec_len into.old + length (spelling self.now) ≤ vec_capacity into.old }
         ensures items { into.new.items ≡ into.old.items ++ spelling self.now }
         ensures len { vec_len into.new ≡ vec_len into.old + length (spelling self.now) }
-        ensures capacity { vec_capacity into.old ≤ vec_capacity into.new };
+        ensures capacity { vec_capacity into.old ≤ vec_capacity into.new }
+        ensures writable { writable self.now };
 
     /// Reads it from the front of the bytes, and gives what stands behind it.
     fn read(alloc: Global, bytes: &[u8]) -> Result<(Self, &[u8]), RecordFault>
@@ -55,6 +59,7 @@ pub fn put_all<T: Field>(fields: &[T], into: &mut Vec<u8>)
     ensures items { into.new.items ≡ into.old.items ++ flat_map T.spelling fields.now }
     ensures len { vec_len into.new ≡ vec_len into.old + length (flat_map T.spelling fields.now) }
     ensures capacity { vec_capacity into.old ≤ vec_capacity into.new }
+    ensures writable { All T.writable fields.now }
 {
     for field in fields {
         field.put(into);
@@ -97,6 +102,7 @@ pub fn put_counted<T: Field>(width: usize, fields: &[T], into: &mut Vec<u8>)
     ensures items { into.new.items ≡ into.old.items ++ counted width T.spelling fields.now }
     ensures len { vec_len into.new ≡ vec_len into.old + length (counted width T.spelling fields.now) }
     ensures capacity { vec_capacity into.old ≤ vec_capacity into.new }
+    ensures writable { All T.writable fields.now }
 {
     put_number(width, fields.len() as u64, into);
     put_all(fields, into);

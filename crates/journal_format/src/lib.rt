@@ -3,6 +3,7 @@
 
 mod fault;
 mod field;
+mod laws;
 mod numbers;
 mod parts;
 mod record;
@@ -12,6 +13,7 @@ mod stored;
 mod texts;
 
 pub use fault::RecordFault;
+pub use laws::{has_one_spelling, reads_back};
 pub use record::{put_record, read_record, record_length};
 pub use recorded::Recorded;
 

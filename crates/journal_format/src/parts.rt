@@ -84,10 +84,13 @@ fn value_of(alloc: Global, kind: u8, bytes: &[u8]) -> Result<(Value, &[u8]), Rec
 impl Field for Value {
     ghost use Rattle.journal_format.specs.Spelling.{value_bytes};
     ghost use Rattle.journal_format.specs.Reading.{value_at};
+    ghost use Rattle.journal_format.specs.Writable.{IsValue};
 
     ghost spelling = { value_bytes };
 
     ghost reading = { value_at };
+
+    ghost writable = { IsValue };
 
     #[tactic(auto, using(crate::proofs::Writes::length_be), unfolding(crate::specs::Spelling::value_bytes, crate::specs::Spelling::truth_bytes))]
     fn length(&self) -> u64 {
@@ -143,10 +146,13 @@ impl Field for Value {
 impl Field for Rid {
     ghost use Rattle.journal_format.specs.Spelling.{id_bytes};
     ghost use Rattle.journal_format.specs.Reading.{id_at};
+    ghost use Rattle.journal_format.specs.Writable.{IsId};
 
     ghost spelling = { id_bytes };
 
     ghost reading = { id_at };
+
+    ghost writable = { IsId };
 
     #[tactic(auto, using(crate::proofs::Writes::length_id), unfolding(crate::specs::Spelling::id_bytes))]
     fn length(&self) -> u64 {
@@ -209,10 +215,13 @@ fn part_of(alloc: Global, kind: u8, bytes: &[u8]) -> Result<(Part, &[u8]), Recor
 impl Field for Part {
     ghost use Rattle.journal_format.specs.Spelling.{part_bytes};
     ghost use Rattle.journal_format.specs.Reading.{part_at};
+    ghost use Rattle.journal_format.specs.Writable.{IsPart};
 
     ghost spelling = { part_bytes };
 
     ghost reading = { part_at };
+
+    ghost writable = { IsPart };
 
     #[tactic(auto, unfolding(crate::specs::Spelling::part_bytes))]
     fn length(&self) -> u64 {

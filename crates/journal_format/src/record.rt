@@ -1,10 +1,12 @@
 //! The bodies of records: their spelling, their length and their reading.
 
-ghost use Rattle.std.specs.Prelude.{◌≡◌, ◌+◌, ◌≤◌, ◌++◌, length, None, OnOk, OnErr, vec_len, vec_capacity};
+ghost use Rattle.std.specs.Prelude.{◌≡◌, ◌+◌, ◌≤◌, ◌++◌, length, None, Ok, IfOk, OnOk, OnErr, vec_len, vec_capacity};
 ghost use Rattle.wfs_ends.specs.Ends.{capped};
 ghost use Rattle.wfs_ends.specs.Read.{GivesBut};
 ghost use Rattle.journal_format.specs.Spelling.{body_of, IsSpelled};
 ghost use Rattle.journal_format.specs.Reading.{opening_at, base_at, change_of, ended, record_of};
+ghost use Rattle.journal_format.specs.Writable.{IsWritable};
+ghost use Rattle.journal_format.specs.RoundTrip.{recorded_of, spelling_of};
 
 use crate::fault::RecordFault;
 use crate::field::{Field, length_counted, put_counted, read_counted, read_few};
@@ -40,7 +42,8 @@ pub fn record_length(change: &Change, signature: &Text) -> u64
 #[tactic(auto, unfolding(crate::specs::Spelling::body_of))]
 fn put_body(change: &Change, signature: &Text, into: &mut Vec<u8>)
     requires { vec_len into.old + length (body_of change.now signature.now) ≤ vec_capacity into.old }
-    ensures { into.new.items ≡ into.old.items ++ body_of change.now signature.now }
+    ensures items { into.new.items ≡ into.old.items ++ body_of change.now signature.now }
+    ensures writable { IsWritable change.now signature.now }
 {
     match change {
         Change::Opening(number) => {
@@ -78,6 +81,7 @@ fn put_body(change: &Change, signature: &Text, into: &mut Vec<u8>)
 pub fn put_record(change: &Change, signature: &Text, into: &mut Vec<u8>) -> Mem<()>
     requires { IsSpelled change.now signature.now }
     ensures ok { OnOk result (into.new.items ≡ into.old.items ++ body_of change.now signature.now) }
+    ensures again { OnOk result (record_of (body_of change.now signature.now) ≡ Ok (recorded_of change.now signature.now)) }
     ensures err { OnErr result (into.new.items ≡ into.old.items) }
 {
     into.reserve(record_length(change, signature) as usize)?;
@@ -154,7 +158,8 @@ fn change_of(alloc: Global, kind: u8, bytes: &[u8]) -> Result<(Recorded, &[u8]),
 /// The first fault in reading order: `Cut`, `Kind` or `Trailing`. `OutOfMemory`.
 #[tactic(auto, unfolding(crate::specs::Reading::record_of, crate::specs::Reading::ended))]
 pub fn read_record(alloc: Global, bytes: &[u8]) -> Result<Recorded, RecordFault>
-    ensures { GivesBut RecordFault.OutOfMemory (λ x. x) result (record_of bytes.now) }
+    ensures value { GivesBut RecordFault.OutOfMemory (λ x. x) result (record_of bytes.now) }
+    ensures spelled { IfOk result (λ recorded. spelling_of recorded ≡ bytes.now) }
 {
     let (kind, rest) = first_of(bytes)?;
     let (recorded, rest) = change_of(alloc, kind, rest)?;

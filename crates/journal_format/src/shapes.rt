@@ -25,10 +25,13 @@ pub fn pair_at(bytes: &[u8]) -> Result<((i32, i32), &[u8]), RecordFault>
 impl Field for Pos {
     ghost use Rattle.journal_format.specs.Spelling.{point_bytes};
     ghost use Rattle.journal_format.specs.Reading.{point_at};
+    ghost use Rattle.geom_core.specs.Plane.{IsPosition};
 
     ghost spelling = { point_bytes };
 
     ghost reading = { point_at };
+
+    ghost writable = { IsPosition };
 
     #[tactic(auto, using(crate::proofs::Writes::length_point), unfolding(crate::specs::Spelling::point_bytes))]
     fn length(&self) -> u64 {
@@ -54,19 +57,23 @@ impl Field for Pos {
 impl Field for Line {
     ghost use Rattle.journal_format.specs.Spelling.{path_bytes};
     ghost use Rattle.journal_format.specs.Reading.{line_at};
+    ghost use Rattle.geom_core.specs.Valid.{IsLineOf};
 
     ghost spelling = { path_bytes };
 
     ghost reading = { line_at };
+
+    ghost writable = { IsLineOf };
 
     #[tactic(auto, using(crate::proofs::Writes::length_be), unfolding(crate::specs::Spelling::path_bytes))]
     fn length(&self) -> u64 {
         length_counted(4, self.positions())
     }
 
-    #[tactic(auto, using(crate::proofs::Writes::length_be), unfolding(crate::specs::Spelling::path_bytes))]
+    #[tactic(auto, using(crate::proofs::Writes::length_path), unfolding(crate::specs::Spelling::path_bytes, crate::specs::Spelling::counted))]
     fn put(&self, into: &mut Vec<u8>) {
-        put_counted(4, self.positions(), into);
+        put_number(4, self.count() as u64, into);
+        put_all(self.positions(), into);
     }
 
     #[tactic(auto, unfolding(crate::specs::Reading::line_at, crate::specs::Reading::shaped))]
@@ -82,19 +89,23 @@ impl Field for Line {
 impl Field for Ring {
     ghost use Rattle.journal_format.specs.Spelling.{path_bytes};
     ghost use Rattle.journal_format.specs.Reading.{ring_at};
+    ghost use Rattle.geom_core.specs.Valid.{IsRingOf};
 
     ghost spelling = { path_bytes };
 
     ghost reading = { ring_at };
+
+    ghost writable = { IsRingOf };
 
     #[tactic(auto, using(crate::proofs::Writes::length_be), unfolding(crate::specs::Spelling::path_bytes))]
     fn length(&self) -> u64 {
         length_counted(4, self.positions())
     }
 
-    #[tactic(auto, using(crate::proofs::Writes::length_be), unfolding(crate::specs::Spelling::path_bytes))]
+    #[tactic(auto, using(crate::proofs::Writes::length_path), unfolding(crate::specs::Spelling::path_bytes, crate::specs::Spelling::counted))]
     fn put(&self, into: &mut Vec<u8>) {
-        put_counted(4, self.positions(), into);
+        put_number(4, self.count() as u64, into);
+        put_all(self.positions(), into);
     }
 
     #[tactic(auto, unfolding(crate::specs::Reading::ring_at, crate::specs::Reading::shaped))]
@@ -126,10 +137,13 @@ fn rings_at(alloc: Global, count: u32, bytes: &[u8]) -> Result<(Polygon, &[u8]),
 impl Field for Polygon {
     ghost use Rattle.journal_format.specs.Spelling.{area_bytes};
     ghost use Rattle.journal_format.specs.Reading.{area_at};
+    ghost use Rattle.geom_core.specs.Valid.{IsAreaOf};
 
     ghost spelling = { area_bytes };
 
     ghost reading = { area_at };
+
+    ghost writable = { IsAreaOf };
 
     #[tactic(auto, using(crate::proofs::Writes::length_area), unfolding(crate::specs::Spelling::area_bytes, crate::specs::Spelling::counted))]
     fn length(&self) -> u64 {
@@ -141,7 +155,7 @@ impl Field for Polygon {
 
     #[tactic(auto, using(crate::proofs::Writes::length_area), unfolding(crate::specs::Spelling::area_bytes, crate::specs::Spelling::counted))]
     fn put(&self, into: &mut Vec<u8>) {
-        put_number(4, self.holes().len() as u64 + 1, into);
+        put_number(4, self.count_rings() as u64, into);
         self.shell().put(into);
         put_all(self.holes(), into);
     }

@@ -9,10 +9,13 @@ use wfs_model::StoredQuery;
 impl Field for StoredQuery {
     ghost use Rattle.journal_format.specs.Spelling.{stored_bytes};
     ghost use Rattle.journal_format.specs.Reading.{stored_at};
+    ghost use Rattle.journal_format.specs.Writable.{IsStored};
 
     ghost spelling = { stored_bytes };
 
     ghost reading = { stored_at };
+
+    ghost writable = { IsStored };
 
     #[tactic(auto, using(crate::proofs::Writes::length_be), unfolding(crate::specs::Spelling::stored_bytes))]
     fn length(&self) -> u64 {

@@ -37,10 +37,13 @@ fn words_at(alloc: Global, size: u32, bytes: &[u8]) -> Result<(Text, &[u8]), Rec
 impl Field for Text {
     ghost use Rattle.journal_format.specs.Spelling.{text_bytes};
     ghost use Rattle.journal_format.specs.Reading.{text_at};
+    ghost use Rattle.std.specs.Str.{IsUtf8};
 
     ghost spelling = { text_bytes };
 
     ghost reading = { text_at };
+
+    ghost writable = { IsUtf8 };
 
     #[tactic(auto, using(crate::proofs::Writes::length_text), unfolding(crate::specs::Spelling::text_bytes))]
     fn length(&self) -> u64 {
@@ -64,10 +67,13 @@ impl Field for Text {
 impl Field for u64 {
     ghost use Rattle.journal_format.specs.Spelling.{counter_bytes};
     ghost use Rattle.journal_format.specs.Reading.{counter_at};
+    ghost use Rattle.journal_format.specs.Writable.{IsCounter};
 
     ghost spelling = { counter_bytes };
 
     ghost reading = { counter_at };
+
+    ghost writable = { IsCounter };
 
     #[tactic(auto, using(crate::proofs::Writes::length_be), unfolding(crate::specs::Spelling::counter_bytes))]
     fn length(&self) -> u64 {
