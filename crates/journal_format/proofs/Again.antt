@@ -1,18 +1,14 @@
 -- What was written reads back: lists, texts and shapes.
-use Rattle.std.proofs.Common.{◌≡◌, ℕ, ◌+◌, ◌^◌, ◌<◌, ◌≤◌, true, false, List, [], ◌∷◌, ◌++◌, length, map, Ok, refl, sym, ap, ◌∙◌, subst, arith, append_assoc}
+use Rattle.std.proofs.Common.{◌≡◌, ℕ, ◌^◌, ◌<◌, List, [], ◌∷◌, ◌++◌, length, map, Ok, sym, ap, ◌∙◌, subst, append_assoc}
 use Rattle.std.specs.Prelude.{All}
 use Rattle.std.specs.List.{flat_map}
-use Rattle.std.specs.Str.{IsUtf8}
-use Rattle.std.proofs.lemmas.List.{append-nil, length-append, map-id}
+use Rattle.std.proofs.lemmas.List.{append-nil, map-id}
 use Rattle.std.proofs.lemmas.List.Elements.{All-head, All-tail, All-weaker}
-use Rattle.journal_format.specs.Numbers.{Reads, be, number_at}
+use Rattle.journal_format.specs.Numbers.{Reads, be}
 use Rattle.journal_format.specs.Reading.{times, counted_at}
 use Rattle.journal_format.specs.Spelling.{counted}
 use Rattle.journal_format.proofs.Digits.{number_again}
-
--- these bytes read as x, whatever stands behind them
-pub record ReadAs {A : Type 0} (read : List ℕ → Reads A) (bytes : List ℕ) (x : A) : Type 0 where
-  pub again : (rest : List ℕ) → read (bytes ++ rest) ≡ Ok (x, rest)
+use Rattle.journal_format.proofs.Words.{ReadAs}
 
 module _ {A : Type 0} (read : List ℕ → Reads A) (spelling : A → List ℕ) (read_as : A → A) where
   abbrev pub AllReadAs : List A → Type 0

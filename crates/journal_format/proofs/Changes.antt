@@ -1,34 +1,32 @@
 -- What was written reads back: values, parts, stored queries and changes.
-use Rattle.std.proofs.Common.{◌≡◌, ℕ, ◌+◌, ◌^◌, ◌<◌, ◌≤◌, true, false, Bool, List, [], ◌∷◌, ◌++◌, length, map, Some, None, Ok, ℤ, pos, negsuc, refl, sym, ap, ◌∙◌, subst, arith, append_assoc}
+use Rattle.std.proofs.Common.{◌≡◌, ℕ, ◌+◌, ◌^◌, ◌<◌, ◌≤◌, true, false, List, [], ◌∷◌, ◌++◌, length, map, Ok, ℤ, pos, negsuc, refl, sym, ap, ◌∙◌, arith, append_assoc}
 use Rattle.std.specs.Prelude.{All, FitsSigned}
 use Rattle.std.specs.Int.{w64, cast_unsigned}
 use Rattle.std.specs.List.{flat_map}
 use Rattle.std.specs.Str.{IsUtf8}
 use Rattle.std.proofs.lemmas.Int.{to_z-of_z}
 use Rattle.std.proofs.lemmas.List.{append-nil, length-append}
-use Rattle.std.proofs.lemmas.List.Elements.{All-head, All-tail, All-cons, All-nil, All-weaker}
+use Rattle.std.proofs.lemmas.List.Elements.{All-cons, All-nil}
 use Rattle.geom_core.specs.Plane.{Point, Area}
 use Rattle.geom_core.specs.Valid.{IsAreaOf}
 use Rattle.geom_core.specs.declared.geometry.Geometry.TheVariants.{At, Along, Over}
-use Rattle.feature_values.specs.declared.feature.Feature.{Feature}
 use Rattle.feature_values.specs.declared.feature.Rid.{Rid}
 use Rattle.feature_values.specs.declared.value.Value.{Value}
 use Rattle.feature_values.specs.declared.value.Value.TheVariants.{Null, Words, Whole, Truth, Shape}
 use Rattle.wfs_model.specs.declared.stored.StoredQuery.{StoredQuery}
 use Rattle.wfs_model.specs.declared.change.Part.{Part}
 use Rattle.wfs_model.specs.declared.change.Part.TheVariants.{Put, Remove}
-use Rattle.wfs_model.specs.declared.change.Change.{Change}
 use Rattle.wfs_model.specs.declared.change.Change.TheVariants.{Opening, Rows, Created, Dropped, Base}
-use Rattle.journal_format.specs.declared.recorded.Recorded.{Recorded}
-use Rattle.journal_format.specs.Numbers.{Reads, be, number_at, first_of}
-use Rattle.journal_format.specs.Reading.{counted_at, text_at, counter_at, area_at, truth_at, point_value_at, value_of, value_at, id_at, put_at, remove_at, part_of, part_at, stored_at, plain, opening_at, base_at, change_of, ended, record_of}
-use Rattle.journal_format.specs.Spelling.{text_bytes, counted, counter_bytes, path_bytes, area_bytes, truth_bytes, value_bytes, id_bytes, part_bytes, stored_bytes, body_of, IsShort, IsSpelled}
-use Rattle.journal_format.specs.Writable.{IsCounter, IsValue, IsId, IsPart, IsStored, IsWritable}
-use Rattle.journal_format.specs.RoundTrip.{bare, recorded_of, ReadsBack}
+use Rattle.journal_format.specs.Numbers.{Reads, be, first_of}
+use Rattle.journal_format.specs.Reading.{counted_at, text_at, counter_at, area_at, truth_at, point_value_at, value_of, value_at, id_at, put_at, remove_at, part_of, part_at, stored_at, opening_at, base_at, change_of, ended, record_of}
+use Rattle.journal_format.specs.Spelling.{text_bytes, counted, counter_bytes, path_bytes, area_bytes, truth_bytes, value_bytes, id_bytes, part_bytes, stored_bytes, body_of, IsShort}
+use Rattle.journal_format.specs.Writable.{IsCounter, IsValue, IsId, IsPart, IsStored}
+use Rattle.journal_format.specs.RoundTrip.{bare, ReadsBack}
 use Rattle.journal_format.proofs.Digits.{number_again}
-use Rattle.journal_format.proofs.Again.{ReadAs, counted_again, all_again}
+use Rattle.journal_format.proofs.Words.{ReadAs}
+use Rattle.journal_format.proofs.Again.{counted_again, all_again}
 use Rattle.journal_format.proofs.Geometries.{text_again, point_again, line_again, area_again}
-use Rattle.journal_format.proofs.Writes.{length_be, length_text, length_of_counted, length_path, length_id, length_area}
+use Rattle.journal_format.proofs.Writes.{length_text, length_of_counted, length_path, length_area}
 
 -- ---- lists of which each has some bytes
 

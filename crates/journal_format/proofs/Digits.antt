@@ -5,14 +5,15 @@ use Rattle.std.specs.Int.{byte_at, bytes_high_first}
 use Rattle.std.proofs.Math.Nat.{div-one, mod-eq_of_lt, mul-add-div_right, mul-add-mod_self_right, one-le-pow, pow-succ', mul_assoc}
 use Rattle.std.proofs.lemmas.Bool.{cases_lt}
 use Rattle.std.proofs.lemmas.Nat.{div-mul-add}
-use Rattle.std.proofs.lemmas.List.{length-append, length-take-le, take-append-drop, drop_at, get_or_past}
-use Rattle.std.proofs.lemmas.List.Elements.{All-tail, All-head, All-get_or}
-use Rattle.byteorder.specs.Endian.{big_from, big_number, big_bytes}
+use Rattle.std.proofs.lemmas.List.{length-append, take-append-drop, drop_at, get_or_past}
+use Rattle.std.proofs.lemmas.List.Elements.{All-tail, All-head}
+use Rattle.byteorder.specs.Endian.{big_number}
 use Rattle.byteorder.specs.Numbers.{big_from-cons, big_from-lt, big_number-reads_back}
 use Rattle.journal_format.specs.Numbers.{AreBytes, be, number_at}
 use Rattle.journal_format.specs.declared.fault.RecordFault.{RecordFault}
 use Rattle.journal_format.specs.declared.fault.RecordFault.TheVariants.{Cut}
 use Rattle.wfs_ends.proofs.Turns.{ok_is}
+use Rattle.journal_format.proofs.Words.{IsRead, IsExact}
 use Rattle.journal_format.proofs.Writes.{length_be}
 
 pow_pos256 : (n : ℕ) → 0 < 256 ^ n
@@ -60,25 +61,20 @@ number_again n x rest lt =
     let long = not_less (length (be n x ++ rest)) n (omega (arith, length-append (be n x) rest, length_be n x)) in
     rw (long, big_number-reads_back n x rest lt, drop_at (be n x) rest n (length_be n x)) refl
 
--- a number that is read, by the bytes that it was read of
-pub record NumberRead (n : ℕ) (bytes : List ℕ) (x : ℕ × List ℕ) : Type 0 where
-  pub whole : bytes ≡ be n x.0 ++ x.1
-  pub small : x.0 < 256 ^ n
-
-read_long : (n : ℕ) (bytes : List ℕ) → n ≤ length bytes → AreBytes bytes → NumberRead n bytes (big_number n bytes, drop n bytes)
+read_long : (n : ℕ) (bytes : List ℕ) → n ≤ length bytes → AreBytes bytes → IsRead (be n) (λ x. x < 256 ^ n) bytes (big_number n bytes, drop n bytes)
 unfolding be
 read_long n bytes le are = record {
   whole = sym (ap (λ (l : List ℕ). l ++ drop n bytes) (bytes_again n bytes le are) ∙ take-append-drop n bytes);
-  small = big_from-lt 0 n bytes (small bytes are);
+  such = big_from-lt 0 n bytes (small bytes are);
 }
 
-number_by : (n : ℕ) (bytes : List ℕ) (x : ℕ × List ℕ) (b : Bool) → nat_lt (length bytes) n ≡ b → AreBytes bytes → (if b then Err Cut else Ok (big_number n bytes, drop n bytes)) ≡ Ok x → NumberRead n bytes x
-number_by n bytes x true short are e = absurd cc
-number_by n bytes x false long are e =
+read_by : (n : ℕ) (bytes : List ℕ) (x : ℕ × List ℕ) (b : Bool) → nat_lt (length bytes) n ≡ b → AreBytes bytes → (if b then Err Cut else Ok (big_number n bytes, drop n bytes)) ≡ Ok x → IsRead (be n) (λ x. x < 256 ^ n) bytes x
+read_by n bytes x true short are e = absurd cc
+read_by n bytes x false long are e =
     let le : n ≤ length bytes = grind arith in
-    subst (NumberRead n bytes) (ok_is RecordFault _ _ e) (read_long n bytes le are)
+    subst (IsRead (be n) (λ x. x < 256 ^ n) bytes) (ok_is RecordFault _ _ e) (read_long n bytes le are)
 
 -- what is read was written so
-pub number_whole : (n : ℕ) (bytes : List ℕ) (x : ℕ × List ℕ) → AreBytes bytes → number_at n bytes ≡ Ok x → NumberRead n bytes x
+pub number_exact : (n : ℕ) → IsExact (number_at n) (be n) (λ x. x < 256 ^ n)
 unfolding number_at
-number_whole n bytes x are e = number_by n bytes x (nat_lt (length bytes) n) refl are e
+number_exact n = record { told = λ bytes x are e. read_by n bytes x (nat_lt (length bytes) n) refl are e }

@@ -1,23 +1,23 @@
 -- Texts and shapes that were written read back.
-use Rattle.std.proofs.Common.{◌≡◌, ℕ, ◌+◌, ◌^◌, ◌<◌, ◌≤◌, ◌*◌, true, false, List, [], ◌∷◌, ◌++◌, length, map, take, drop, Ok, ℤ, pos, negsuc, refl, sym, ap, ◌∙◌, subst, arith, append_assoc}
-use Rattle.std.specs.Prelude.{All, sum_by, FitsSigned, ◌==◌, ◌-◌}
-use Rattle.std.specs.Int.{w32, w64, cast_signed, cast_unsigned}
+use Rattle.std.proofs.Common.{◌≡◌, ℕ, ◌+◌, ◌^◌, ◌<◌, ◌≤◌, false, List, [], ◌∷◌, ◌++◌, length, Ok, ℤ, pos, negsuc, refl, ap, ◌∙◌, arith, append_assoc}
+use Rattle.std.specs.Prelude.{All, FitsSigned, ◌==◌, ◌-◌}
+use Rattle.std.specs.Int.{w32, cast_unsigned}
 use Rattle.std.specs.List.{flat_map}
-use Rattle.std.specs.Str.{IsUtf8, is_utf8}
+use Rattle.std.specs.Str.{IsUtf8}
 use Rattle.std.proofs.lemmas.Str.{is_utf8-from_IsUtf8}
 use Rattle.std.proofs.lemmas.Bool.Decides.{nat_tests}
 use Rattle.std.proofs.lemmas.Int.{ints, to_z-of_z}
-use Rattle.std.proofs.lemmas.List.{append-nil, map-id, length-append, take_at, drop_at}
-use Rattle.std.proofs.lemmas.List.Elements.{All-head, All-tail, All-weaker}
+use Rattle.std.proofs.lemmas.List.{map-id, length-append, take_at, drop_at}
+use Rattle.std.proofs.lemmas.List.Elements.{All-weaker}
 use Rattle.geom_core.specs.Plane.{Point, Area, IsPosition, IsCoordinate}
-use Rattle.geom_core.specs.Shapes.{IsLine, IsRing, IsPolygon}
 use Rattle.geom_core.specs.Valid.{IsLineOf, IsRingOf, IsAreaOf}
 use Rattle.geom_core.proofs.Valid.{position_is, line_is, ring_is, area_is}
-use Rattle.journal_format.specs.Numbers.{Reads, be, number_at}
+use Rattle.journal_format.specs.Numbers.{be}
 use Rattle.journal_format.specs.Reading.{times, counted_at, words_of, words_at, text_at, pair_at, shaped, point_at, line_at, ring_at, rings_at, area_at}
 use Rattle.journal_format.specs.Spelling.{text_bytes, counted, point_bytes, path_bytes, area_bytes}
 use Rattle.journal_format.proofs.Digits.{number_again, not_less}
-use Rattle.journal_format.proofs.Again.{ReadAs, times_again, all_again}
+use Rattle.journal_format.proofs.Words.{ReadAs}
+use Rattle.journal_format.proofs.Again.{times_again, all_again}
 
 -- ---- texts
 

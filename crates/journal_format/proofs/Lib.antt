@@ -5,4 +5,5 @@ pub mod Exact
 pub mod Geometries
 pub mod Spelled
 pub mod Turns
+pub mod Words
 pub mod Writes

@@ -1,5 +1,5 @@
 -- What a body says, or the first fault in reading order.
-use Rattle.std.specs.Prelude.{ℕ, ℤ, zero, suc, ◌-◌, Bool, true, false, ◌==◌, nat_lt, if◌then◌else◌, List, [], ◌∷◌, ◌++◌, length, take, drop, Option, Some, None, Result, Ok, Err}
+use Rattle.std.specs.Prelude.{ℕ, ℤ, zero, suc, ◌-◌, Bool, true, false, ◌==◌, nat_lt, if◌then◌else◌, List, [], ◌∷◌, ◌++◌, length, take, drop, Some, None, Result, Ok, Err}
 use Rattle.std.specs.Int.{w32, w64, cast_signed}
 use Rattle.std.specs.Str.{is_utf8}
 use Rattle.geom_core.specs.Plane.{Point, Area}

@@ -5,7 +5,7 @@ use Rattle.wfs_model.specs.declared.change.Change.{Change}
 use Rattle.wfs_model.specs.declared.change.Change.TheVariants.{Opening, Rows, Created, Dropped, Base}
 use Rattle.journal_format.specs.declared.recorded.Recorded.{Recorded}
 use Rattle.journal_format.specs.Numbers.{AreBytes}
-use Rattle.journal_format.specs.Spelling.{body_of, IsSpelled}
+use Rattle.journal_format.specs.Spelling.{body_of, AreShort, IsSpelled}
 use Rattle.journal_format.specs.Reading.{plain, record_of}
 use Rattle.journal_format.specs.Writable.{IsWritable}
 
@@ -21,6 +21,14 @@ recorded_of (Created queries) signature = plain (Created (map bare queries))
 recorded_of (Dropped id) signature = plain (Dropped id)
 recorded_of (Base opening counters) signature = plain (Base opening counters)
 
+-- the body of a change reads as the change
+abbrev pub IsReadBack : Change → List ℕ → Type 0
+IsReadBack change signature = record_of (body_of change signature) ≡ Ok (recorded_of change signature)
+
+-- What was put reads back.
+abbrev pub ReadsBack : Type 0
+ReadsBack = (change : Change) (signature : List ℕ) → IsSpelled change signature → IsWritable change signature → IsReadBack change signature
+
 -- a text that may not be there: it is then empty
 abbrev pub text_or_empty : Option (List ℕ) → List ℕ
 text_or_empty None = []
@@ -30,10 +38,12 @@ text_or_empty (Some text) = text
 abbrev pub spelling_of : Recorded → List ℕ
 spelling_of recorded = body_of recorded.change (text_or_empty recorded.signature)
 
--- What was put reads back.
-abbrev pub ReadsBack : Type 0
-ReadsBack = (change : Change) (signature : List ℕ) → IsSpelled change signature → IsWritable change signature → record_of (body_of change signature) ≡ Ok (recorded_of change signature)
+-- bytes that spell what was read of them, which may be put again
+pub record IsSpelledBy (recorded : Recorded) (bytes : List ℕ) : Type 0 where
+  pub spelling : spelling_of recorded ≡ bytes
+  pub short : AreShort recorded.change
+  pub writable : IsWritable recorded.change (text_or_empty recorded.signature)
 
--- Of no other bytes is it read: each change has one spelling.
+-- Nothing else is read: each change has one spelling.
 abbrev pub HasOneSpelling : Type 0
-HasOneSpelling = (bytes : List ℕ) (recorded : Recorded) → AreBytes bytes → record_of bytes ≡ Ok recorded → spelling_of recorded ≡ bytes
+HasOneSpelling = (bytes : List ℕ) (recorded : Recorded) → AreBytes bytes → record_of bytes ≡ Ok recorded → IsSpelledBy recorded bytes

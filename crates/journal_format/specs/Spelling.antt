@@ -3,7 +3,6 @@ use Rattle.std.specs.Prelude.{ℕ, Bool, if◌then◌else◌, ◌≤◌, ⊤, Li
 use Rattle.std.specs.List.{flat_map, All}
 use Rattle.std.specs.Int.{w32, w64, cast_unsigned}
 use Rattle.geom_core.specs.Plane.{Point, Area}
-use Rattle.geom_core.specs.declared.geometry.Geometry.{Geometry}
 use Rattle.geom_core.specs.declared.geometry.Geometry.TheVariants.{At, Along, Over}
 use Rattle.feature_values.specs.declared.feature.Rid.{Rid}
 use Rattle.feature_values.specs.declared.value.Value.{Value}

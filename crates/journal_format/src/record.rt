@@ -6,7 +6,7 @@ ghost use Rattle.wfs_ends.specs.Read.{GivesBut};
 ghost use Rattle.journal_format.specs.Spelling.{body_of, IsSpelled};
 ghost use Rattle.journal_format.specs.Reading.{opening_at, base_at, change_of, ended, record_of};
 ghost use Rattle.journal_format.specs.Writable.{IsWritable};
-ghost use Rattle.journal_format.specs.RoundTrip.{recorded_of, spelling_of};
+ghost use Rattle.journal_format.specs.RoundTrip.{IsReadBack, IsSpelledBy};
 
 use crate::fault::RecordFault;
 use crate::field::{Field, length_counted, put_counted, read_counted, read_few};
@@ -72,6 +72,7 @@ fn put_body(change: &Change, signature: &Text, into: &mut Vec<u8>)
 }
 
 /// Writes the body of the change behind what stands in `into`. The schema's signature is written with an opening alone.
+/// The body reads back as the change, but for what its stored queries ask.
 ///
 /// Its memory is taken at once, before the first byte.
 ///
@@ -81,7 +82,7 @@ fn put_body(change: &Change, signature: &Text, into: &mut Vec<u8>)
 pub fn put_record(change: &Change, signature: &Text, into: &mut Vec<u8>) -> Mem<()>
     requires { IsSpelled change.now signature.now }
     ensures ok { OnOk result (into.new.items ≡ into.old.items ++ body_of change.now signature.now) }
-    ensures again { OnOk result (record_of (body_of change.now signature.now) ≡ Ok (recorded_of change.now signature.now)) }
+    ensures reads_back { OnOk result (IsReadBack change.now signature.now) }
     ensures err { OnErr result (into.new.items ≡ into.old.items) }
 {
     into.reserve(record_length(change, signature) as usize)?;
@@ -150,8 +151,8 @@ fn change_of(alloc: Global, kind: u8, bytes: &[u8]) -> Result<(Recorded, &[u8]),
     Err(RecordFault::Kind)
 }
 
-/// Reads the body of a record: exactly the spellings of changes are read. No number in the bytes is trusted for memory,
-/// which is taken for what was read.
+/// Reads the body of a record: exactly the spellings of changes are read, and what was read may be put again. No number
+/// in the bytes is trusted for memory, which is taken for what was read.
 ///
 /// # Errors
 ///
@@ -159,7 +160,7 @@ fn change_of(alloc: Global, kind: u8, bytes: &[u8]) -> Result<(Recorded, &[u8]),
 #[tactic(auto, unfolding(crate::specs::Reading::record_of, crate::specs::Reading::ended))]
 pub fn read_record(alloc: Global, bytes: &[u8]) -> Result<Recorded, RecordFault>
     ensures value { GivesBut RecordFault.OutOfMemory (λ x. x) result (record_of bytes.now) }
-    ensures spelled { IfOk result (λ recorded. spelling_of recorded ≡ bytes.now) }
+    ensures spelled { IfOk result (λ recorded. IsSpelledBy recorded bytes.now) }
 {
     let (kind, rest) = first_of(bytes)?;
     let (recorded, rest) = change_of(alloc, kind, rest)?;

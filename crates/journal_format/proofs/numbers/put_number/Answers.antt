@@ -1,4 +1,4 @@
-use Rattle.std.proofs.Common.{◌≡◌, ◌++◌, ap, ◌∙◌}
+use Rattle.std.proofs.Common.{◌++◌, ap, ◌∙◌}
 use Rattle.journal_format.proofs.Writes.{lowest}
 use Rattle.journal_format.proofs.numbers.put_number.Goals as goal
 
