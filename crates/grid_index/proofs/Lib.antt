@@ -1,5 +1,11 @@
+pub mod Added
+pub mod Asked
+pub mod Chains
+pub mod Finding
 pub mod Marked
 pub mod Meeting
+pub mod Covered
+pub mod Standing
 pub mod Taken
 pub mod Same
 pub mod Spared

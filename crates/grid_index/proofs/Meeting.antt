@@ -9,7 +9,7 @@ use Rattle.grid_index.specs.Cells.{cell_of, share_cell, is_wide, is_huge}
 use Rattle.grid_index.specs.Near.{Placed, is_same, puts_near, AreNear, IsMet}
 
 -- a coordinate that is not below another has no lower cell
-cell_keeps : (u v : ℤ) → int_lt u v ≡ false → int_lt (cell_of u) (cell_of v) ≡ false
+pub cell_keeps : (u v : ℤ) → int_lt u v ≡ false → int_lt (cell_of u) (cell_of v) ≡ false
 unfolding cell_of
 cell_keeps (pos a) (pos b) h = grind (arith, h)
 cell_keeps (pos a) (negsuc b) h = grind (arith, h)

@@ -1,7 +1,7 @@
 -- The cells of the plane, squares of side 65,536, and which of them a box covers.
-use Rattle.std.specs.Prelude.{ℕ, ◌+◌, ◌*◌, ℤ, pos, ◌-ℤ◌, unsigned_abs, Bool, ◌||◌, not, nat_lt}
+use Rattle.std.specs.Prelude.{ℕ, ◌+◌, ◌*◌, ◌/◌, ◌%◌, ℤ, pos, ◌+ℤ◌, ◌-ℤ◌, unsigned_abs, Bool, ◌||◌, not, nat_lt}
 use Rattle.std.specs.Int.{int_div_euclid}
-use Rattle.geom_core.specs.Plane.{Bounds, are_apart}
+use Rattle.geom_core.specs.Plane.{Bounds, are_apart, box_at}
 
 -- the cell of a coordinate: its quotient by the side, rounded down
 unfoldable pub cell_of : ℤ → ℤ
@@ -18,6 +18,14 @@ span low high = unsigned_abs (high -ℤ low) + 1
 -- how many cells a box covers
 abbrev pub cell_count : Bounds → ℕ
 cell_count b = let cells = cells_of b in span cells.low.x cells.high.x * span cells.low.y cells.high.y
+
+-- a cell is one of those that a box covers
+unfoldable pub covers : Bounds → ℤ × ℤ → Bool
+covers b cell = not (are_apart (cells_of b) (box_at (record { x = cell.0; y = cell.1 })))
+
+-- the cells that a box covers by number, column by column
+unfoldable pub cell_at : Bounds → ℕ → ℤ × ℤ
+cell_at b i = let cells = cells_of b in let height = span cells.low.y cells.high.y in (cells.low.x +ℤ pos (i / height), cells.low.y +ℤ pos (i % height))
 
 -- a box that covers so many cells that it stands on the wide list, and in no cell
 unfoldable pub is_wide : Bounds → Bool

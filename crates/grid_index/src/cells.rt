@@ -1,7 +1,8 @@
 //! The cells that a box covers, and how many they are.
 
-ghost use Rattle.std.specs.Prelude.{◌≡◌, ◌≤◌, ◌*◌, ◌^◌, ◌||◌, int_lt};
-ghost use Rattle.grid_index.specs.Cells.{cell_of, span, cell_count, is_wide, is_huge, share_cell, is_near};
+ghost use Rattle.std.specs.Prelude.{◌≡◌, ◌<◌, ◌≤◌, ◌*◌, ◌||◌, int_lt, pos, ◌+ℤ◌, unsigned_abs};
+ghost use Rattle.geom_core.specs.Plane.{IsUpright};
+ghost use Rattle.grid_index.specs.Cells.{cell_of, span, cell_count, cell_at, is_wide, is_huge, share_cell, is_near};
 ghost use Rattle.grid_index.specs.Room.{places};
 
 use geom_core::{Box2, Pos};
@@ -10,38 +11,74 @@ use geom_core::{Box2, Pos};
 const SIDE: i32 = 65_536;
 
 // A box over more cells than this stands on the wide list.
-const MOST_CELLS: u128 = 64;
+const MOST_CELLS: usize = 64;
 
 // For a box over more cells than this every feature is near.
-const MOST_ASKED: u128 = 65_536;
+const MOST_ASKED: usize = 65_536;
 
 #[tactic(auto, unfolding(crate::specs::Cells::cell_of))]
 fn cell_of(z: i32) -> i32
-    ensures { result ≡ cell_of z }
+    ensures value { result ≡ cell_of z }
+    ensures bound { unsigned_abs result ≤ 32_768 }
 {
     z.div_euclid(SIDE)
 }
 
-fn span(low: i32, high: i32) -> u64
+fn span(low: i32, high: i32) -> usize
+    requires { (unsigned_abs low ≤ 32_768) × (unsigned_abs high ≤ 32_768) }
     ensures value { result ≡ span low high }
-    ensures bound { result ≤ 2 ^ 32 }
+    ensures bound { result ≤ 65_537 }
 {
-    u64::from(high.abs_diff(low)) + 1
+    high.abs_diff(low) as usize + 1
 }
 
-fn product(a: u64, b: u64) -> u128
-    requires { (a ≤ 2 ^ 32) × (b ≤ 2 ^ 32) }
+fn product(a: usize, b: usize) -> usize
+    requires { (a ≤ 65_537) × (b ≤ 65_537) }
     ensures { result ≡ a * b }
 {
-    u128::from(a) * u128::from(b)
+    a * b
 }
 
-fn cell_count(area: &Box2) -> u128
-    ensures { result ≡ cell_count area.now }
+fn columns(area: &Box2) -> usize
+    ensures value { result ≡ span (cell_of area.now.low.x) (cell_of area.now.high.x) }
+    ensures bound { result ≤ 65_537 }
 {
-    product(
-        span(cell_of(area.low.x), cell_of(area.high.x)),
-        span(cell_of(area.low.y), cell_of(area.high.y)),
+    span(cell_of(area.low.x), cell_of(area.high.x))
+}
+
+fn rows(area: &Box2) -> usize
+    ensures value { result ≡ span (cell_of area.now.low.y) (cell_of area.now.high.y) }
+    ensures bound { result ≤ 65_537 }
+{
+    span(cell_of(area.low.y), cell_of(area.high.y))
+}
+
+pub fn cell_count(area: &Box2) -> usize
+    ensures count { result ≡ cell_count area.now }
+    ensures upright { IsUpright area.now }
+{
+    let _low = area.low;
+    product(columns(area), rows(area))
+}
+
+// The cell so many steps above another.
+fn above(low: i32, steps: usize) -> i32
+    requires { (unsigned_abs low ≤ 32_768) × (steps ≤ 65_537) }
+    ensures { result ≡ low +ℤ pos steps }
+{
+    low + steps as i32
+}
+
+// The cell of a number among those that a box covers, column by column.
+#[tactic(auto, unfolding(crate::specs::Cells::cell_at))]
+pub fn cell_at(area: &Box2, i: usize) -> (i32, i32)
+    requires { i < cell_count area.now }
+    ensures { result ≡ cell_at area.now i }
+{
+    let (_columns, rows) = (columns(area), rows(area));
+    (
+        above(cell_of(area.low.x), i / rows),
+        above(cell_of(area.low.y), i % rows),
     )
 }
 
@@ -65,13 +102,10 @@ pub fn places(area: &Box2) -> usize
     ensures value { result ≡ places area.now }
     ensures bound { result ≤ 64 }
     ensures some { 1 ≤ result }
+    ensures upright { IsUpright area.now }
 {
     let count = cell_count(area);
-    if MOST_CELLS < count {
-        1
-    } else {
-        count as usize
-    }
+    if MOST_CELLS < count { 1 } else { count }
 }
 
 fn is_beyond(low: Pos, high: Pos) -> bool

@@ -5,6 +5,8 @@ mod cells;
 mod found;
 mod grid;
 mod laws;
+mod lists;
+mod stands;
 
 pub use grid::Grid;
 pub use laws::{spare_alone, spare_without};

@@ -1,0 +1,157 @@
+-- The stands of a box, one after another: each of them, and none twice.
+use Rattle.std.proofs.Common.{◌≡◌, ◌≢◌, ℕ, ℤ, pos, negsuc, ◌+◌, ◌*◌, ◌/◌, ◌%◌, ◌<◌, ◌≤◌, ◌+ℤ◌, ◌-ℤ◌, ◌≤ℤ◌, int_lt, unsigned_abs, Bool, true, false, cond, ◌&&◌, ◌||◌, not, Option, Some, None, refl, sym, ap, subst, ◌∙◌, ⊎_elim, arith}
+use Rattle.std.specs.Prelude.{zero, suc, if◌then◌else◌}
+use Rattle.std.specs.Int.{int_max}
+use Rattle.std.proofs.lemmas.Int.{ints}
+use Rattle.std.proofs.lemmas.Option.{same_Some}
+use Rattle.std.proofs.lemmas.Bool.{cases_eq, cases_Bool, and_parts, false≢true, or_cases, or_left, or_right, or_from, or_parts, not-true, not_from_false, and_from, false_from_ne_true}
+use Rattle.std.proofs.Math.Nat.{mul_comm}
+use Rattle.std.proofs.lemmas.Nat.{div_below, mod_below, div-mul-add, mod-mul-add, mul-add-lt, div-add-mod'}
+use Rattle.geom_core.specs.Plane.{Bounds, IsUpright, are_apart}
+use Rattle.grid_index.specs.Cells.{cell_of, cells_of, span, cell_count, covers, cell_at, is_wide, is_huge, share_cell, is_near}
+use Rattle.grid_index.specs.Room.{places}
+use Rattle.grid_index.specs.Lists.{Stand, same_cell, same_stand, stand_at, stands_in, is_asked, is_among_first}
+use Rattle.grid_index.proofs.Chains.{stand_is, stand_self}
+use Rattle.grid_index.proofs.Meeting.{cell_keeps}
+
+pub first_of : (n : ℕ) (stands : ℕ → Stand) (stand : Stand) (i : ℕ) → i < n → stands i ≡ stand → is_among_first n stands stand ≡ true
+first_of zero stands stand i lt e = absurd (omega arith)
+first_of (suc n) stands stand i lt e = ⊎_elim
+  (λ (same : i ≡ n). or_right _ _ (subst (λ (x : Stand). same_stand x stand ≡ true) (sym (ap stands (sym same) ∙ e)) (stand_self stand)))
+  (λ (other : i ≢ n). or_left _ _ (first_of n stands stand i (omega arith) e))
+  (cases_eq i n)
+
+pub of_first : (n : ℕ) (stands : ℕ → Stand) (stand : Stand) (claim : Bool) → ((i : ℕ) → i < n → stands i ≡ stand → claim ≡ true) → is_among_first n stands stand ≡ true → claim ≡ true
+of_first zero stands stand claim h e = absurd (false≢true e)
+of_first (suc n) stands stand claim h e = ⊎_elim
+  (λ (l : is_among_first n stands stand ≡ true). of_first n stands stand claim (λ i lt. h i (omega arith)) l)
+  (λ (r : same_stand (stands n) stand ≡ true). h n (omega arith) (stand_is _ _ r))
+  (or_cases _ _ e)
+
+both_ways : (a b : Bool) → (a ≡ true → b ≡ true) → (b ≡ true → a ≡ true) → a ≡ b
+both_ways true b f g = sym (f refl)
+both_ways false true f g = g refl
+both_ways false false f g = refl
+
+in_span : (l h : ℤ) (a : ℕ) → int_lt h l ≡ false → a < span l h → (int_lt (l +ℤ pos a) l ≡ false) × (int_lt h (l +ℤ pos a) ≡ false)
+in_span l h a up lt = (grind (arith, ints), grind (arith, ints))
+
+of_span : (l h c : ℤ) → int_lt c l ≡ false → int_lt h c ≡ false → (unsigned_abs (c -ℤ l) < span l h) × (l +ℤ pos (unsigned_abs (c -ℤ l)) ≡ c)
+of_span l h c p q = (grind (arith, ints), grind (arith, ints))
+
+le_not_lt : (a b : ℤ) → a ≤ℤ b → int_lt b a ≡ false
+le_not_lt a b h = grind (arith, ints)
+
+pub none_of : (a b c d : Bool) → a ≡ false → b ≡ false → c ≡ false → d ≡ false → not ((a || b) || (c || d)) ≡ true
+none_of a b c d p q r s = rw (p, q, r, s) refl
+
+pub each_of : (a b c d : Bool) → not ((a || b) || (c || d)) ≡ true → ((a ≡ false) × (b ≡ false)) × ((c ≡ false) × (d ≡ false))
+each_of a b c d e =
+    let halves = or_parts (a || b) (c || d) (not-true _ e) in
+    (or_parts a b halves.0, or_parts c d halves.1)
+
+-- a cell lies within those of a box
+pub record IsWithin (b : Bounds) (cell : ℤ × ℤ) : Type 0 where
+  pub from_x : int_lt cell.0 (cell_of b.low.x) ≡ false
+  pub from_y : int_lt cell.1 (cell_of b.low.y) ≡ false
+  pub to_x : int_lt (cell_of b.high.x) cell.0 ≡ false
+  pub to_y : int_lt (cell_of b.high.y) cell.1 ≡ false
+
+pub covers_from : (b : Bounds) (cell : ℤ × ℤ) → IsWithin b cell → covers b cell ≡ true
+unfolding covers are_apart
+covers_from b cell h = none_of _ _ _ _ h.from_x h.from_y h.to_x h.to_y
+
+pub covers_gives : (b : Bounds) (cell : ℤ × ℤ) → covers b cell ≡ true → IsWithin b cell
+unfolding covers are_apart
+covers_gives b cell e =
+    let all = each_of (int_lt cell.0 (cell_of b.low.x)) (int_lt cell.1 (cell_of b.low.y)) (int_lt (cell_of b.high.x) cell.0) (int_lt (cell_of b.high.y) cell.1) e in
+    record { from_x = all.0.0; from_y = all.0.1; to_x = all.1.0; to_y = all.1.1 }
+
+pub upright_x : (b : Bounds) → IsUpright b → int_lt (cell_of b.high.x) (cell_of b.low.x) ≡ false
+upright_x b h = cell_keeps b.high.x b.low.x (le_not_lt _ _ h.x)
+
+pub upright_y : (b : Bounds) → IsUpright b → int_lt (cell_of b.high.y) (cell_of b.low.y) ≡ false
+upright_y b h = cell_keeps b.high.y b.low.y (le_not_lt _ _ h.y)
+
+span_some : (l h : ℤ) → 0 < span l h
+span_some l h = omega arith
+
+cell_in : (b : Bounds) (i : ℕ) → IsUpright b → i < cell_count b → covers b (cell_at b i) ≡ true
+unfolding cell_at
+cell_in b i h lt =
+    let height : ℕ = span (cell_of b.low.y) (cell_of b.high.y) in
+    let x = in_span (cell_of b.low.x) (cell_of b.high.x) (i / height) (upright_x b h) (div_below i height (span (cell_of b.low.x) (cell_of b.high.x)) (span_some (cell_of b.low.y) (cell_of b.high.y)) lt) in
+    let y = in_span (cell_of b.low.y) (cell_of b.high.y) (i % height) (upright_y b h) (mod_below i height (span_some (cell_of b.low.y) (cell_of b.high.y))) in
+    covers_from b _ (record { from_x = x.0; from_y = y.0; to_x = x.1; to_y = y.1 })
+
+same_steps : (l : ℤ) (a b : ℕ) → l +ℤ pos a ≡ l +ℤ pos b → a ≡ b
+same_steps l a b e = grind (arith, ints)
+
+cell_once : (b : Bounds) (i j : ℕ) → cell_at b i ≡ cell_at b j → i ≡ j
+unfolding cell_at
+cell_once b i j e =
+    let height : ℕ = span (cell_of b.low.y) (cell_of b.high.y) in
+    let x : i / height ≡ j / height = same_steps (cell_of b.low.x) _ _ (ap (λ (c : ℤ × ℤ). c.0) e) in
+    let y : i % height ≡ j % height = same_steps (cell_of b.low.y) _ _ (ap (λ (c : ℤ × ℤ). c.1) e) in
+    sym (div-add-mod' i height) ∙ ap (λ (k : ℕ). k * height + i % height) x ∙ ap (λ (k : ℕ). j / height * height + k) y ∙ div-add-mod' j height
+
+cell_numbered : (b : Bounds) (cell : ℤ × ℤ) → covers b cell ≡ true → (i : ℕ) × ((i < cell_count b) × (cell_at b i ≡ cell))
+unfolding cell_at
+cell_numbered b cell e =
+    let h = covers_gives b cell e in
+    let width : ℕ = span (cell_of b.low.x) (cell_of b.high.x) in
+    let height : ℕ = span (cell_of b.low.y) (cell_of b.high.y) in
+    let x = of_span (cell_of b.low.x) (cell_of b.high.x) cell.0 h.from_x h.to_x in
+    let y = of_span (cell_of b.low.y) (cell_of b.high.y) cell.1 h.from_y h.to_y in
+    let column : ℕ = unsigned_abs (cell.0 -ℤ cell_of b.low.x) in
+    let row : ℕ = unsigned_abs (cell.1 -ℤ cell_of b.low.y) in
+    let column_is : (column * height + row) / height ≡ column = div-mul-add column height row y.0 in
+    let row_is : (column * height + row) % height ≡ row = mod-mul-add column height row y.0 in
+    let low : column * height + row < height * width = mul-add-lt column height row width x.0 y.0 in
+    (column * height + row,
+      (subst (λ (n : ℕ). column * height + row < n) (mul_comm height width) low,
+        λ i. ((ap (λ (k : ℕ). cell_of b.low.x +ℤ pos k) column_is ∙ x.1) i, (ap (λ (k : ℕ). cell_of b.low.y +ℤ pos k) row_is ∙ y.1) i)))
+
+pub cell_step : (i w h : ℕ) → 0 < h → i < w * h → w ≤ 65_537 → i / h ≤ 65_537
+cell_step i w h some lt bound = let low : i / h < w = div_below i h w some lt in omega arith
+
+-- the cells of a box one after another
+abbrev pub cells : Bounds → ℕ → Stand
+cells b i = Some (cell_at b i)
+
+no_cell : (b : Bounds) (n : ℕ) → is_among_first n (cells b) None ≡ false
+no_cell b n = false_from_ne_true _ (λ e. false≢true (of_first n (cells b) None false (λ i lt q. cc) e))
+
+all_cells : (b : Bounds) → IsUpright b → (cell : ℤ × ℤ) → is_among_first (cell_count b) (cells b) (Some cell) ≡ covers b cell
+all_cells b h cell = both_ways _ _
+  (of_first (cell_count b) (cells b) (Some cell) (covers b cell) (λ i lt e. subst (λ (x : ℤ × ℤ). covers b x ≡ true) (same_Some (cell_at b i) cell e) (cell_in b i h lt)))
+  (λ e. let k = cell_numbered b cell e in first_of (cell_count b) (cells b) (Some cell) k.0 k.1.0 (ap (λ (x : ℤ × ℤ). Some x) k.1.1))
+
+-- the wide list and the cells of a box are where pairs near it are asked for
+pub all_asked : (b : Bounds) → IsUpright b → (stand : Stand) → (same_stand None stand || is_among_first (cell_count b) (cells b) stand) ≡ is_asked b stand
+all_asked b h None = refl
+all_asked b h (Some cell) = all_cells b h cell
+
+all_by : (wide : Bool) (b : Bounds) → IsUpright b → (stand : Stand) → is_among_first (if wide then 1 else cell_count b) (λ i. if wide then None else Some (cell_at b i)) stand ≡ elim stand as (λ _. Bool) [ None ↦ wide | Some cell ↦ not wide && covers b cell ]
+all_by true b h None = refl
+all_by true b h (Some cell) = refl
+all_by false b h None = no_cell b (cell_count b)
+all_by false b h (Some cell) = all_cells b h cell
+
+-- the stands of a box are all those that it takes
+pub all_stands : (b : Bounds) → IsUpright b → (stand : Stand) → is_among_first (places b) (stand_at b) stand ≡ stands_in b stand
+unfolding places
+all_stands b h None = all_by (is_wide b) b h None
+all_stands b h (Some cell) = all_by (is_wide b) b h (Some cell)
+
+once_by : (wide : Bool) (b : Bounds) (i j : ℕ) → i < (if wide then 1 else cell_count b) → j < (if wide then 1 else cell_count b) → (if wide then None else Some (cell_at b i)) ≡ (if wide then None else Some (cell_at b j)) → i ≡ j
+once_by true b i j p q e = omega arith
+once_by false b i j p q e = cell_once b i j (same_Some _ _ e)
+
+stand_once : (b : Bounds) (i j : ℕ) → i < places b → j < places b → stand_at b i ≡ stand_at b j → i ≡ j
+unfolding places
+stand_once b i j p q e = once_by (is_wide b) b i j p q e
+
+-- the next stand of a box is another than those before
+pub new_stand : (b : Bounds) (i : ℕ) → i < places b → is_among_first i (stand_at b) (stand_at b i) ≡ false
+new_stand b i lt = false_from_ne_true _ (λ e. false≢true (of_first i (stand_at b) (stand_at b i) false (λ j low q. let same : j ≡ i = stand_once b j i (omega arith) lt q in absurd (omega arith)) e))

@@ -1,0 +1,7 @@
+use Rattle.std.proofs.Common.{arith}
+use Rattle.std.proofs.lemmas.Int.{ints}
+use Rattle.grid_index.proofs.Covered.{cell_step}
+use Rattle.grid_index.proofs.cells.cell_at.Goals as goal
+
+pub above-requires : goal.above-requires
+above-requires c = (omega (arith, ints, c.cell_of.ensures.bound), cell_step c.args.i c.columns-columns.result c.rows-rows.result (omega (arith, c.rows-rows.ensures.value)) (rw (c.columns-columns.ensures.value, c.rows-rows.ensures.value) c.requires) c.columns-columns.ensures.bound)
