@@ -14,20 +14,16 @@ pub added_same : (n : ℕ) (pair also : ℕ → Option Placed) → ((t : ℕ) �
 added_same zero pair also e = refl
 added_same (suc n) pair also e = rw (added_same n pair also (λ t low. e t (omega arith)), e n (omega arith)) refl
 
-nat_same : {X : Type 0} (n t : ℕ) (x y : X) → n ≡ t → cond (nat_eq n t) x y ≡ x
+pub nat_same : {X : Type 0} (n t : ℕ) (x y : X) → n ≡ t → cond (nat_eq n t) x y ≡ x
 nat_same n t x y e = grind (arith, nat_tests)
 
-nat_other : {X : Type 0} (n t : ℕ) (x y : X) → n ≢ t → cond (nat_eq n t) x y ≡ y
+pub nat_other : {X : Type 0} (n t : ℕ) (x y : X) → n ≢ t → cond (nat_eq n t) x y ≡ y
 nat_other n t x y e = grind (arith, nat_tests)
 
 pub added_push : (n : ℕ) (pair also : ℕ → Option Placed) (p : Placed) → ((t : ℕ) → also t ≡ cond (nat_eq n t) (Some p) (pair t)) → added (n + 1) also ≡ added n pair ++ p ∷ []
 added_push n pair also p e =
     let one : n + 1 ≡ suc n = omega arith in
     rw (one, added_same n pair also (λ t low. e t ∙ nat_other n t (Some p) (pair t) (omega arith)), e n, nat_same n n (Some p) (pair n) refl) refl
-
-end_nil : (xs : List Placed) → xs ++ [] ≡ xs
-end_nil [] = refl
-end_nil (x ∷ xs) = ap (λ (ys : List Placed). x ∷ ys) (end_nil xs)
 
 pub added_taken : (n : ℕ) (pair also : ℕ → Option Placed) (m : ℕ) (p : Placed) → m < n → pair m ≡ Some p → ((t : ℕ) → also t ≡ cond (nat_eq m t) None (pair t)) → IsTakenOut p (added n pair) (added n also)
 added_taken zero pair also m p lt here e = absurd (omega arith)
@@ -43,8 +39,8 @@ added_taken (suc n) pair also m p lt here e = ⊎_elim
     record {
       before = h.before;
       after = h.after ++ one_or_none (pair n);
-      was = ap (λ (xs : List Placed). xs ++ one_or_none (pair n)) h.was ∙ append_assoc;
-      is = rw (e n, nat_other m n None (pair n) other) (ap (λ (xs : List Placed). xs ++ one_or_none (pair n)) h.is ∙ append_assoc);
+      was = ap (λ (xs : List Placed). xs ++ one_or_none (pair n)) h.was ∙ append_assoc h.before (p ∷ h.after) (one_or_none (pair n));
+      is = rw (e n, nat_other m n None (pair n) other) (ap (λ (xs : List Placed). xs ++ one_or_none (pair n)) h.is ∙ append_assoc h.before h.after (one_or_none (pair n)));
     })
   (cases_eq m n)
 
@@ -75,8 +71,11 @@ any_added test (suc n) pair claim h e = ⊎_elim
   (λ (r : list_any test (one_or_none (pair n)) ≡ true). one_any test (pair n) claim (λ p. h n p (omega arith)) r)
   (or_cases _ _ (sym (list_any-append test (added n pair) (one_or_none (pair n))) ∙ e))
 
-pub removed_one : (n : ℕ) (pair also : ℕ → Option Placed) (m : ℕ) (p : Placed) → m < n → pair m ≡ Some p → ((t : ℕ) → also t ≡ cond (nat_eq m t) None (pair t)) → IsRemoved p (added n pair) (added n also)
-removed_one n pair also m p lt here e = inl (added_taken n pair also m p lt here e)
+pub removed_one : (n : ℕ) (pair also : ℕ → Option Placed) (m : ℕ) (p : Placed) → ((t : ℕ) → n ≤ t → pair t ≡ None) → pair m ≡ Some p → ((t : ℕ) → also t ≡ cond (nat_eq m t) None (pair t)) → IsRemoved p (added n pair) (added n also)
+removed_one n pair also m p fresh here e = ⊎_elim
+  (λ (low : m < n). inl (added_taken n pair also m p low here e))
+  (λ (high : n ≤ m). absurd (let none : None ≡ Some p = sym (fresh m high) ∙ here in cc))
+  (cases_lt m n)
 
 pub removed_none : (n : ℕ) (pair : ℕ → Option Placed) (p : Placed) → ((t : ℕ) → pair t ≢ Some p) → IsRemoved p (added n pair) (added n pair)
 removed_none n pair p apart = inr (added_without n pair p apart, refl)

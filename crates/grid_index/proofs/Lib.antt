@@ -6,6 +6,8 @@ pub mod Marked
 pub mod Meeting
 pub mod Covered
 pub mod Standing
+pub mod Keeping
+pub mod Scanned
 pub mod Taken
 pub mod Same
 pub mod Spared

@@ -12,7 +12,7 @@ and_right : (a b : Bool) → (a && b) ≡ true → b ≡ true
 and_right true b h = h
 and_right false b h = cc
 
-same_id : (a b : Rid) → is_same a b ≡ true → a ≡ b
+pub same_id : (a b : Rid) → is_same a b ≡ true → a ≡ b
 same_id a b e =
     let kind : a.kind ≡ b.kind = grind (arith, e) in
     let number : a.number ≡ b.number = grind (arith, e) in

@@ -1,6 +1,7 @@
 -- How a grid keeps its pairs: each by a number, and in the lists of its stands.
 use Rattle.std.specs.Prelude.{◌≡◌, ℕ, zero, suc, ◌-◌, ◌≤◌, if◌then◌else◌, min, List, [], ◌∷◌, ◌++◌, Option, Some, None, nat_eq}
 use Rattle.std.specs.HashMap.{HashMap, get, spare}
+use Rattle.geom_core.specs.Plane.{IsUpright}
 use Rattle.feature_values.specs.declared.feature.Rid.{Rid}
 use Rattle.grid_index.specs.Near.{Placed}
 use Rattle.grid_index.specs.declared.lists.Link.{Link}
@@ -20,9 +21,10 @@ abbrev pub listed : Stand → Option Placed → Option Rid
 listed stand None = None
 listed stand (Some placed) = if stands_in placed.1 stand then Some placed.0 else None
 
--- the numbers of pairs are below the next one, and each pair is in the lists of its stands and in no other
+-- the numbers of pairs are below the next one, their boxes are upright, and each pair is in the lists of its stands and in no other
 pub record AreListed (pair : ℕ → Option Placed) (next : ℕ) (ids : Key → Option Rid) : Type 0 where
   pub fresh : (n : ℕ) → next ≤ n → pair n ≡ None
+  pub upright : (n : ℕ) (placed : Placed) → pair n ≡ Some placed → IsUpright placed.1
   pub listed : (key : Key) → ids key ≡ listed key.0 (pair key.1)
 
 pub record AreKept {S T U : Type 0} (pairs : HashMap ℕ Placed S) (next : ℕ) (newest : HashMap Stand ℕ T) (links : HashMap Key Link U) : Type 0 where

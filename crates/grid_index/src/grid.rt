@@ -1,15 +1,19 @@
 //! The grid: pairs of a feature and a box that it has, and what is near a box.
 
-ghost use Rattle.std.specs.Prelude.{◌≡◌, ◌+◌, ◌≤◌, ◌≢◌, ◌++◌, ◌∷◌, [], All, IfOk, OnOk, IfSome, IfNone, slice_index_or, length, ◌<◌, true, false};
+ghost use Rattle.std.specs.Prelude.{◌≡◌, ℕ, ◌+◌, ◌≤◌, ◌++◌, ◌∷◌, [], All, IfOk, OnOk, cond, Some, nat_eq};
 ghost use Rattle.std.specs.List.{sum_by};
-ghost use Rattle.grid_index.specs.Near.{Placed, AreNear, IsMet, IsRemoved};
+ghost use Rattle.std.specs.HashMap.{get, spare};
+ghost use Rattle.grid_index.specs.Near.{AreNear, IsMet, IsRemoved};
 ghost use Rattle.grid_index.specs.Room.{places, IsSpare};
 
 use crate::cells;
-use crate::found::Found;
+use crate::lists::Lists;
+use crate::search::{among_all, in_cells, is_for_all, number_of};
+use crate::stands::{put_in, take_out};
 use feature_values::Rid;
 use geom_core::Box2;
 use std::alloc::Global;
+use std::collections::HashMap;
 use std::marker::Model;
 use wfs_ends::{List, Mem, OutOfMemory};
 
@@ -19,17 +23,36 @@ use wfs_ends::{List, Mem, OutOfMemory};
 /// room for: a box takes one in each of its cells, or one on the wide list.
 #[derive(Drop)]
 pub struct Grid {
-    pairs: Vec<(Rid, Box2)>,
+    // each pair has a number of its own, and a newer one a greater
+    pairs: HashMap<u64, (Rid, Box2)>,
+    next: u64,
+    lists: Lists,
 }
 
 impl Model for Grid {
-    ghost use Rattle.std.specs.Prelude.{◌-◌};
-    ghost use Rattle.std.specs.Vec.{vec_len, vec_capacity};
+    ghost use Rattle.std.specs.Prelude.{nat_eq};
+    ghost use Rattle.std.specs.HashMap.{get};
     ghost use Rattle.grid_index.specs.Room.{Gridded};
 
     ghost Value = { Gridded };
 
-    ghost view = { λ g. record { pairs = g.pairs.items; room = vec_capacity g.pairs - vec_len g.pairs } };
+    ghost use Rattle.grid_index.specs.Kept.{added, grid_room, AreKept};
+
+    ghost view = { λ g. record { pairs = added g.next (get nat_eq g.pairs); room = grid_room g.pairs g.next g.lists.newest g.lists.links } };
+
+    ghost invariant = { λ g. AreKept g.pairs g.next g.lists.newest g.lists.links };
+}
+
+// Keeps a pair by its number.
+fn keep(pairs: &mut HashMap<u64, (Rid, Box2)>, number: u64, id: Rid, area: Box2)
+    requires { 1 ≤ spare pairs.old }
+    ensures pairs { (n : ℕ) → get nat_eq pairs.new n ≡ cond (nat_eq number n) (Some (id, area)) (get nat_eq pairs.old n) }
+    ensures room { spare pairs.old ≤ spare pairs.new + 1 }
+{
+    match pairs.insert(number, (id, area)) {
+        Ok(_) => (),
+        Err(_) => unreachable!(),
+    }
 }
 
 impl Grid {
@@ -38,7 +61,9 @@ impl Grid {
         ensures { result.pairs ≡ [] }
     {
         Grid {
-            pairs: Vec::new(alloc),
+            pairs: HashMap::new(alloc),
+            next: 0,
+            lists: Lists::new(alloc),
         }
     }
 
@@ -49,7 +74,11 @@ impl Grid {
         ensures room { self.old.room ≤ self.new.room }
     {
         let more = places_of(areas.items())?;
-        Ok(self.pairs.reserve(more)?)
+        if self.next.checked_add(more as u64).is_none() {
+            return Err(OutOfMemory);
+        }
+        self.pairs.reserve(more)?;
+        self.lists.reserve(more)
     }
 
     /// Adds a pair of a feature and a box that it has, for which there is room. It takes no memory.
@@ -59,7 +88,10 @@ impl Grid {
         ensures room { self.old.room ≤ self.new.room + places area }
     {
         let _places = cells::places(&area);
-        self.pairs.push_reserved((id, area));
+        let number = self.next;
+        self.next = number + 1;
+        keep(&mut self.pairs, number, id, area);
+        put_in(&mut self.lists, &area, number, id);
     }
 
     /// Takes out one such pair, where there is one.
@@ -67,8 +99,9 @@ impl Grid {
         ensures pairs { IsRemoved (id, area) self.old.pairs self.new.pairs }
         ensures room { self.old.room ≤ self.new.room }
     {
-        if let Some(i) = place_of(self.pairs.as_slice(), id, area) {
-            self.pairs.remove(i);
+        if let Some(number) = number_of(&self.pairs, &self.lists, id, area) {
+            self.pairs.remove(&number);
+            take_out(&mut self.lists, &area, number);
         }
     }
 
@@ -78,22 +111,12 @@ impl Grid {
         ensures exact { IfOk result (AreNear area.now self.now.pairs) }
         ensures meeting { IfOk result (λ ids. All (IsMet area.now ids) self.now.pairs) }
     {
-        Ok(List::of(gather(alloc, self.pairs.as_slice(), area)?))
-    }
-}
-
-// The features among these that are near a box.
-fn gather(alloc: Global, pairs: &[(Rid, Box2)], asked: &Box2) -> Mem<Vec<Rid>>
-    ensures { IfOk result (λ ids. AreNear asked.now pairs.now ids.items) }
-{
-    let mut found = Found::new(alloc);
-    for (id, area) in pairs {
-        if cells::is_near(asked, area) {
-            found.add(*id)?;
+        let _low = area.low;
+        if is_for_all(self.pairs.len(), area) {
+            return Ok(List::of(among_all(alloc, &self.pairs, area)?));
         }
+        Ok(List::of(in_cells(alloc, &self.lists, area)?))
     }
-    let Found { ids, marks: _ } = found;
-    Ok(ids)
 }
 
 // How many places these boxes take.
@@ -109,26 +132,4 @@ fn places_of(areas: &[Box2]) -> Mem<usize>
         }
     }
     Ok(all)
-}
-
-// Whether this is the pair of a feature and a box.
-fn is_pair(pair: &(Rid, Box2), id: Rid, area: Box2) -> bool
-    ensures yes { result ≡ true → pair.now ≡ (id, area) }
-    ensures no { result ≡ false → pair.now ≢ (id, area) }
-{
-    pair.0 == id && pair.1 == area
-}
-
-// Where the first such pair stands.
-fn place_of(pairs: &[(Rid, Box2)], id: Rid, area: Box2) -> Option<usize>
-    ensures below { IfSome result (λ i. i < length pairs.now) }
-    ensures some { IfSome result (λ i. (d : Placed) → slice_index_or pairs.now i d ≡ (id, area)) }
-    ensures none { IfNone result (All (λ p. p ≢ (id, area)) pairs.now) }
-{
-    for (i, pair) in pairs.iter().enumerate() {
-        if is_pair(pair, id, area) {
-            return Some(i);
-        }
-    }
-    None
 }

@@ -6,6 +6,7 @@ mod found;
 mod grid;
 mod laws;
 mod lists;
+mod search;
 mod stands;
 
 pub use grid::Grid;
