@@ -1,37 +1,32 @@
 -- The stands of a box, one after another: each of them, and none twice.
-use Rattle.std.proofs.Common.{◌≡◌, ◌≢◌, ℕ, ℤ, pos, negsuc, ◌+◌, ◌*◌, ◌/◌, ◌%◌, ◌<◌, ◌≤◌, ◌+ℤ◌, ◌-ℤ◌, ◌≤ℤ◌, int_lt, unsigned_abs, Bool, true, false, cond, ◌&&◌, ◌||◌, not, Option, Some, None, refl, sym, ap, subst, ◌∙◌, ⊎_elim, arith}
+use Rattle.std.proofs.Common.{◌≡◌, ◌≢◌, ℕ, ℤ, pos, ◌+◌, ◌*◌, ◌/◌, ◌%◌, ◌<◌, ◌≤◌, ◌+ℤ◌, ◌-ℤ◌, ◌≤ℤ◌, int_lt, unsigned_abs, Bool, true, false, ◌&&◌, ◌||◌, not, Some, None, refl, sym, ap, subst, ◌∙◌, ⊎_elim, arith}
 use Rattle.std.specs.Prelude.{zero, suc, if◌then◌else◌}
-use Rattle.std.specs.Int.{int_max}
 use Rattle.std.proofs.lemmas.Int.{ints}
 use Rattle.std.proofs.lemmas.Option.{same_Some}
-use Rattle.std.proofs.lemmas.Bool.{cases_eq, cases_Bool, and_parts, false≢true, or_cases, or_left, or_right, or_from, or_parts, not-true, not_from_false, and_from, false_from_ne_true}
+use Rattle.std.proofs.lemmas.Bool.{cases_eq, false≢true, or_cases, or_left, or_right, or_parts, not-true, false_from_ne_true}
 use Rattle.std.proofs.Math.Nat.{mul_comm}
 use Rattle.std.proofs.lemmas.Nat.{div_below, mod_below, div-mul-add, mod-mul-add, mul-add-lt, div-add-mod'}
 use Rattle.geom_core.specs.Plane.{Bounds, IsUpright, are_apart}
-use Rattle.grid_index.specs.Cells.{cell_of, cells_of, span, cell_count, covers, cell_at, is_wide, is_huge, share_cell, is_near}
+use Rattle.grid_index.specs.Cells.{cell_of, span, cell_count, covers, cell_at, is_wide}
 use Rattle.grid_index.specs.Room.{places}
-use Rattle.grid_index.specs.Lists.{Stand, same_cell, same_stand, stand_at, stands_in, is_asked, is_among_first}
+use Rattle.grid_index.specs.Lists.{Stand, same_stand, stand_at, stands_in, is_asked, is_among_first}
+use Rattle.grid_index.proofs.Plain.{both_ways}
 use Rattle.grid_index.proofs.Chains.{stand_is, stand_self}
 use Rattle.grid_index.proofs.Meeting.{cell_keeps}
 
 pub first_of : (n : ℕ) (stands : ℕ → Stand) (stand : Stand) (i : ℕ) → i < n → stands i ≡ stand → is_among_first n stands stand ≡ true
 first_of zero stands stand i lt e = absurd (omega arith)
 first_of (suc n) stands stand i lt e = ⊎_elim
-  (λ (same : i ≡ n). or_right _ _ (subst (λ (x : Stand). same_stand x stand ≡ true) (sym (ap stands (sym same) ∙ e)) (stand_self stand)))
-  (λ (other : i ≢ n). or_left _ _ (first_of n stands stand i (omega arith) e))
-  (cases_eq i n)
+    (λ (same : i ≡ n). or_right _ _ (subst (λ (x : Stand). same_stand x stand ≡ true) (sym (ap stands (sym same) ∙ e)) (stand_self stand)))
+    (λ (other : i ≢ n). or_left _ _ (first_of n stands stand i (omega arith) e))
+    (cases_eq i n)
 
 pub of_first : (n : ℕ) (stands : ℕ → Stand) (stand : Stand) (claim : Bool) → ((i : ℕ) → i < n → stands i ≡ stand → claim ≡ true) → is_among_first n stands stand ≡ true → claim ≡ true
 of_first zero stands stand claim h e = absurd (false≢true e)
 of_first (suc n) stands stand claim h e = ⊎_elim
-  (λ (l : is_among_first n stands stand ≡ true). of_first n stands stand claim (λ i lt. h i (omega arith)) l)
-  (λ (r : same_stand (stands n) stand ≡ true). h n (omega arith) (stand_is _ _ r))
-  (or_cases _ _ e)
-
-both_ways : (a b : Bool) → (a ≡ true → b ≡ true) → (b ≡ true → a ≡ true) → a ≡ b
-both_ways true b f g = sym (f refl)
-both_ways false true f g = g refl
-both_ways false false f g = refl
+    (λ (l : is_among_first n stands stand ≡ true). of_first n stands stand claim (λ i lt. h i (omega arith)) l)
+    (λ (r : same_stand (stands n) stand ≡ true). h n (omega arith) (stand_is _ _ r))
+    (or_cases _ _ e)
 
 in_span : (l h : ℤ) (a : ℕ) → int_lt h l ≡ false → a < span l h → (int_lt (l +ℤ pos a) l ≡ false) × (int_lt h (l +ℤ pos a) ≡ false)
 in_span l h a up lt = (grind (arith, ints), grind (arith, ints))
@@ -107,10 +102,13 @@ cell_numbered b cell e =
     let row : ℕ = unsigned_abs (cell.1 -ℤ cell_of b.low.y) in
     let column_is : (column * height + row) / height ≡ column = div-mul-add column height row y.0 in
     let row_is : (column * height + row) % height ≡ row = mod-mul-add column height row y.0 in
-    let low : column * height + row < height * width = mul-add-lt column height row width x.0 y.0 in
-    (column * height + row,
-      (subst (λ (n : ℕ). column * height + row < n) (mul_comm height width) low,
-        λ i. ((ap (λ (k : ℕ). cell_of b.low.x +ℤ pos k) column_is ∙ x.1) i, (ap (λ (k : ℕ). cell_of b.low.y +ℤ pos k) row_is ∙ y.1) i)))
+    let low : column * height + row < height * width = mul-add-lt column height row width x.0 y.0 in (
+      column * height + row,
+      (
+        subst (λ (n : ℕ). column * height + row < n) (mul_comm height width) low,
+        λ i. ((ap (λ (k : ℕ). cell_of b.low.x +ℤ pos k) column_is ∙ x.1) i, (ap (λ (k : ℕ). cell_of b.low.y +ℤ pos k) row_is ∙ y.1) i),
+      ),
+    )
 
 pub cell_step : (i w h : ℕ) → 0 < h → i < w * h → w ≤ 65_537 → i / h ≤ 65_537
 cell_step i w h some lt bound = let low : i / h < w = div_below i h w some lt in omega arith
@@ -124,8 +122,8 @@ no_cell b n = false_from_ne_true _ (λ e. false≢true (of_first n (cells b) Non
 
 all_cells : (b : Bounds) → IsUpright b → (cell : ℤ × ℤ) → is_among_first (cell_count b) (cells b) (Some cell) ≡ covers b cell
 all_cells b h cell = both_ways _ _
-  (of_first (cell_count b) (cells b) (Some cell) (covers b cell) (λ i lt e. subst (λ (x : ℤ × ℤ). covers b x ≡ true) (same_Some (cell_at b i) cell e) (cell_in b i h lt)))
-  (λ e. let k = cell_numbered b cell e in first_of (cell_count b) (cells b) (Some cell) k.0 k.1.0 (ap (λ (x : ℤ × ℤ). Some x) k.1.1))
+    (of_first (cell_count b) (cells b) (Some cell) (covers b cell) (λ i lt e. subst (λ (x : ℤ × ℤ). covers b x ≡ true) (same_Some (cell_at b i) cell e) (cell_in b i h lt)))
+    (λ e. let k = cell_numbered b cell e in first_of (cell_count b) (cells b) (Some cell) k.0 k.1.0 (ap (λ (x : ℤ × ℤ). Some x) k.1.1))
 
 -- the wide list and the cells of a box are where pairs near it are asked for
 pub all_asked : (b : Bounds) → IsUpright b → (stand : Stand) → (same_stand None stand || is_among_first (cell_count b) (cells b) stand) ≡ is_asked b stand

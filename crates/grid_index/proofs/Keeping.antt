@@ -1,12 +1,11 @@
 -- How a grid keeps its pairs, as they come, go and are looked for.
-use Rattle.std.proofs.Common.{◌≡◌, ◌≢◌, ℕ, ◌+◌, ◌<◌, ◌≤◌, Bool, true, false, cond, ◌&&◌, ◌||◌, nat_eq, nat_lt, nat_le, List, Option, Some, None, refl, sym, ap, subst, ◌∙◌, ⊎_elim, arith}
+use Rattle.std.proofs.Common.{◌≡◌, ◌≢◌, ℕ, ◌+◌, ◌<◌, ◌≤◌, Bool, true, false, cond, ◌&&◌, nat_eq, nat_lt, nat_le, List, Option, Some, None, refl, sym, ap, subst, ◌∙◌, ⊎_elim, arith}
 use Rattle.std.specs.Prelude.{is_some, if◌then◌else◌}
 use Rattle.std.specs.Option.{option_map}
 use Rattle.std.specs.List.{list_any, IsDistinct}
 use Rattle.std.proofs.lemmas.Option.{same_Some}
-use Rattle.std.proofs.lemmas.Bool.{cases_eq, cases_lt, cases_Bool, and_parts, and_from, false≢true}
+use Rattle.std.proofs.lemmas.Bool.{eq-eqb, ne_eqb, cases_eq, cases_lt, cases_Bool, and_parts, and_from, false≢true}
 use Rattle.std.proofs.lemmas.Bool.Decides.{nat_tests}
-use Rattle.std.proofs.lemmas.Grind.{common_steps}
 use Rattle.geom_core.specs.Plane.{Bounds, IsUpright}
 use Rattle.feature_values.specs.declared.feature.Rid.{Rid}
 use Rattle.grid_index.specs.declared.lists.Link.{Link}
@@ -16,9 +15,11 @@ use Rattle.grid_index.specs.Near.{Placed, is_among, is_same, puts_near, AreNear}
 use Rattle.grid_index.specs.Found.{Finds}
 use Rattle.grid_index.specs.Lists.{Stand, Key, stand_at, stands_in, is_asked, reaches, IsNext}
 use Rattle.grid_index.specs.Kept.{added, listed, AreListed}
-use Rattle.grid_index.proofs.Added.{added_any, any_added, nat_same, nat_other}
+use Rattle.grid_index.proofs.Plain.{both_ways, at_number, at_other}
+use Rattle.grid_index.proofs.Added.{added_any, any_added}
 use Rattle.grid_index.proofs.Asked.{asked_near, near_asked}
 use Rattle.grid_index.proofs.Covered.{first_of, all_stands}
+use Rattle.grid_index.proofs.Meeting.{same_self}
 use Rattle.grid_index.proofs.Same.{same_id}
 
 pub none_listed : (pair : ℕ → Option Placed) (ids : Key → Option Rid) → ((n : ℕ) → pair n ≡ None) → ((k : Key) → ids k ≡ None) → AreListed pair 0 ids
@@ -44,56 +45,44 @@ not_here false x o = refl
 pub listed_push : (pair also : ℕ → Option Placed) (next : ℕ) (ids now : Key → Option Rid) (id : Rid) (b : Bounds) → AreListed pair next ids → IsUpright b → ((t : ℕ) → also t ≡ cond (nat_eq next t) (Some (id, b)) (pair t))
     → ((k : Key) → now k ≡ cond (stands_in b k.0 && nat_eq next k.1) (Some id) (ids k)) → AreListed also (next + 1) now
 listed_push pair also next ids now id b h up e f = record {
-  fresh = λ n le. e n ∙ nat_other next n (Some (id, b)) (pair n) (omega arith) ∙ h.fresh n (omega arith);
+  fresh = λ n le. e n ∙ at_other next n (Some (id, b)) (pair n) (omega arith) ∙ h.fresh n (omega arith);
   upright = λ n p q. ⊎_elim
-    (λ (same : next ≡ n). let is : (id, b) ≡ p = same_Some (id, b) p (sym (e n ∙ nat_same next n (Some (id, b)) (pair n) same) ∙ q) in subst (λ (x : Placed). IsUpright x.1) is up)
-    (λ (other : next ≢ n). h.upright n p (sym (e n ∙ nat_other next n (Some (id, b)) (pair n) other) ∙ q))
-    (cases_eq next n);
+      (λ (same : next ≡ n). let is : (id, b) ≡ p = same_Some (id, b) p (sym (e n ∙ at_number next n (Some (id, b)) (pair n) same) ∙ q) in subst (λ (x : Placed). IsUpright x.1) is up)
+      (λ (other : next ≢ n). h.upright n p (sym (e n ∙ at_other next n (Some (id, b)) (pair n) other) ∙ q))
+      (cases_eq next n);
   listed = λ k. ⊎_elim
-    (λ (same : next ≡ k.1).
+      (λ (same : next ≡ k.1).
       let none : ids k ≡ None = h.listed k ∙ ap (listed k.0) (h.fresh k.1 (omega arith)) in
-      f k ∙ ap (λ (w : Bool). cond (stands_in b k.0 && w) (Some id) (ids k)) (eq_is next k.1 same) ∙ listed_if (stands_in b k.0) id (ids k) none
-        ∙ sym (ap (listed k.0) (e k.1 ∙ nat_same next k.1 (Some (id, b)) (pair k.1) same)))
-    (λ (other : next ≢ k.1).
-      f k ∙ ap (λ (w : Bool). cond (stands_in b k.0 && w) (Some id) (ids k)) (eq_not next k.1 other) ∙ not_here (stands_in b k.0) (Some id) (ids k) ∙ h.listed k
-        ∙ sym (ap (listed k.0) (e k.1 ∙ nat_other next k.1 (Some (id, b)) (pair k.1) other)))
-    (cases_eq next k.1);
+      f k ∙ ap (λ (w : Bool). cond (stands_in b k.0 && w) (Some id) (ids k)) (eq-eqb next k.1 same) ∙ listed_if (stands_in b k.0) id (ids k) none
+      ∙ sym (ap (listed k.0) (e k.1 ∙ at_number next k.1 (Some (id, b)) (pair k.1) same)))
+      (λ (other : next ≢ k.1).
+      f k ∙ ap (λ (w : Bool). cond (stands_in b k.0 && w) (Some id) (ids k)) (ne_eqb next k.1 other) ∙ not_here (stands_in b k.0) (Some id) (ids k) ∙ h.listed k
+      ∙ sym (ap (listed k.0) (e k.1 ∙ at_other next k.1 (Some (id, b)) (pair k.1) other)))
+      (cases_eq next k.1);
 }
-  where
-    eq_is : (m n : ℕ) → m ≡ n → nat_eq m n ≡ true
-    eq_is m n q = grind (arith, nat_tests)
-
-    eq_not : (m n : ℕ) → m ≢ n → nat_eq m n ≡ false
-    eq_not m n q = grind (arith, nat_tests)
 
 -- a pair goes
 pub listed_take : (pair also : ℕ → Option Placed) (next m : ℕ) (ids now : Key → Option Rid) (id : Rid) (b : Bounds) → AreListed pair next ids → pair m ≡ Some (id, b) → ((t : ℕ) → also t ≡ cond (nat_eq m t) None (pair t))
     → ((k : Key) → now k ≡ cond (stands_in b k.0 && nat_eq m k.1) None (ids k)) → AreListed also next now
 listed_take pair also next m ids now id b h here e f = record {
   fresh = λ n le. ⊎_elim
-    (λ (same : m ≡ n). e n ∙ nat_same m n None (pair n) same)
-    (λ (other : m ≢ n). e n ∙ nat_other m n None (pair n) other ∙ h.fresh n le)
-    (cases_eq m n);
+      (λ (same : m ≡ n). e n ∙ at_number m n None (pair n) same)
+      (λ (other : m ≢ n). e n ∙ at_other m n None (pair n) other ∙ h.fresh n le)
+      (cases_eq m n);
   upright = λ n p q. ⊎_elim
-    (λ (same : m ≡ n). absurd (let none : None ≡ Some p = sym (e n ∙ nat_same m n None (pair n) same) ∙ q in cc))
-    (λ (other : m ≢ n). h.upright n p (sym (e n ∙ nat_other m n None (pair n) other) ∙ q))
-    (cases_eq m n);
+      (λ (same : m ≡ n). absurd (let none : None ≡ Some p = sym (e n ∙ at_number m n None (pair n) same) ∙ q in cc))
+      (λ (other : m ≢ n). h.upright n p (sym (e n ∙ at_other m n None (pair n) other) ∙ q))
+      (cases_eq m n);
   listed = λ k. ⊎_elim
-    (λ (same : m ≡ k.1).
+      (λ (same : m ≡ k.1).
       let was : ids k ≡ (if stands_in b k.0 then Some id else None) = h.listed k ∙ ap (listed k.0) (ap pair (sym same) ∙ here) in
-      f k ∙ ap (λ (w : Bool). cond (stands_in b k.0 && w) None (ids k)) (eq_is m k.1 same) ∙ unlisted_if (stands_in b k.0) id (ids k) was
-        ∙ sym (ap (listed k.0) (e k.1 ∙ nat_same m k.1 None (pair k.1) same)))
-    (λ (other : m ≢ k.1).
-      f k ∙ ap (λ (w : Bool). cond (stands_in b k.0 && w) None (ids k)) (eq_not m k.1 other) ∙ not_here (stands_in b k.0) None (ids k) ∙ h.listed k
-        ∙ sym (ap (listed k.0) (e k.1 ∙ nat_other m k.1 None (pair k.1) other)))
-    (cases_eq m k.1);
+      f k ∙ ap (λ (w : Bool). cond (stands_in b k.0 && w) None (ids k)) (eq-eqb m k.1 same) ∙ unlisted_if (stands_in b k.0) id (ids k) was
+      ∙ sym (ap (listed k.0) (e k.1 ∙ at_number m k.1 None (pair k.1) same)))
+      (λ (other : m ≢ k.1).
+      f k ∙ ap (λ (w : Bool). cond (stands_in b k.0 && w) None (ids k)) (ne_eqb m k.1 other) ∙ not_here (stands_in b k.0) None (ids k) ∙ h.listed k
+      ∙ sym (ap (listed k.0) (e k.1 ∙ at_other m k.1 None (pair k.1) other)))
+      (cases_eq m k.1);
 }
-  where
-    eq_is : (m n : ℕ) → m ≡ n → nat_eq m n ≡ true
-    eq_is m n q = grind (arith, nat_tests)
-
-    eq_not : (m n : ℕ) → m ≢ n → nat_eq m n ≡ false
-    eq_not m n q = grind (arith, nat_tests)
 
 pub listed_same : (pair also : ℕ → Option Placed) (next : ℕ) (ids now : Key → Option Rid) → AreListed pair next ids → ((t : ℕ) → also t ≡ pair t) → ((k : Key) → now k ≡ ids k) → AreListed also next now
 listed_same pair also next ids now h e f = record {
@@ -102,47 +91,28 @@ listed_same pair also next ids now h e f = record {
   listed = λ k. f k ∙ h.listed k ∙ sym (ap (listed k.0) (e k.1));
 }
 
-no_link : (o : Option Link) → option_map (λ l. l.id) o ≡ None → is_some o ≡ false
-no_link None e = refl
-no_link (Some l) e = cc
-
--- the next number is above all that are listed
-pub all_below : (pair : ℕ → Option Placed) (next : ℕ) (link : Key → Option Link) → AreListed pair next (λ k. option_map (λ l. l.id) (link k)) → (stand : Stand) (t : ℕ) → is_some (link (stand, t)) ≡ true → t < next
-all_below pair next link h stand t e = ⊎_elim
-  (λ (low : t < next). low)
-  (λ (high : next ≤ t). absurd (false≢true (sym (no_link (link (stand, t)) (h.listed (stand, t) ∙ ap (listed stand) (h.fresh t high))) ∙ e)))
-  (cases_lt t next)
-
-same_self : (f : Rid) → is_same f f ≡ true
-same_self f = grind (arith, nat_tests)
-
 listed_of : (stand : Stand) (o : Option Placed) (f : Rid) (claim : Bool) → listed stand o ≡ Some f → ((p : Placed) → o ≡ Some p → stands_in p.1 stand ≡ true → p.0 ≡ f → claim ≡ true) → claim ≡ true
 listed_of stand None f claim e h = cc
 listed_of stand (Some p) f claim e h = ⊎_elim
-  (λ (in' : stands_in p.1 stand ≡ true). h p refl in' (same_Some p.0 f (rw in' at e)))
-  (λ (out : stands_in p.1 stand ≡ false). let none : None ≡ Some f = rw out at e in cc)
-  (cases_Bool (stands_in p.1 stand))
-
-both : (a b : Bool) → (a ≡ true → b ≡ true) → (b ≡ true → a ≡ true) → a ≡ b
-both true b f g = sym (f refl)
-both false true f g = g refl
-both false false f g = refl
+    (λ (in' : stands_in p.1 stand ≡ true). h p refl in' (same_Some p.0 f (rw in' at e)))
+    (λ (out : stands_in p.1 stand ≡ false). let none : None ≡ Some f = rw out at e in cc)
+    (cases_Bool (stands_in p.1 stand))
 
 -- what is found where a box asks is what is near it
 pub found_near : (asked : Bounds) (pair : ℕ → Option Placed) (next : ℕ) (ids : Key → Option Rid) (xs : List Rid) → AreListed pair next ids → IsUpright asked → is_huge asked ≡ false → Finds ids (λ k. is_asked asked k.0) xs → IsDistinct is_same xs → AreNear asked (added next pair) xs
 found_near asked pair next ids xs h up small found once = record {
-  just = λ id. both (is_among id xs) (list_any (puts_near asked id) (added next pair))
-    (λ e. found.only id (list_any (puts_near asked id) (added next pair)) e (λ k f a b c.
+  just = λ id. both_ways (is_among id xs) (list_any (puts_near asked id) (added next pair))
+      (λ e. found.only id (list_any (puts_near asked id) (added next pair)) e (λ k f a b c.
       listed_of k.0 (pair k.1) f (list_any (puts_near asked id) (added next pair)) (sym (h.listed k) ∙ b) (λ p here in' is.
-        ⊎_elim
-          (λ (low : k.1 < next). added_any (puts_near asked id) next pair k.1 p low here (and_from _ _ (asked_near asked p.1 k.0 a in') (subst (λ (x : Rid). is_same x id ≡ true) (sym is) c)))
-          (λ (high : next ≤ k.1). let none : None ≡ Some p = sym (h.fresh k.1 high) ∙ here in cc)
-          (cases_lt k.1 next))))
-    (λ e. any_added (puts_near asked id) next pair (is_among id xs) (λ m p low here t.
+      ⊎_elim
+      (λ (low : k.1 < next). added_any (puts_near asked id) next pair k.1 p low here (and_from _ _ (asked_near asked p.1 k.0 a in') (subst (λ (x : Rid). is_same x id ≡ true) (sym is) c)))
+      (λ (high : next ≤ k.1). let none : None ≡ Some p = sym (h.fresh k.1 high) ∙ here in cc)
+      (cases_lt k.1 next))))
+      (λ e. any_added (puts_near asked id) next pair (is_among id xs) (λ m p low here t.
       let near = and_parts (is_near asked p.1) (is_same p.0 id) t in
       near_asked asked p.1 up (h.upright m p here) small near.0 (is_among id xs) (λ stand a in'.
-        let at : ids (stand, m) ≡ Some p.0 = h.listed (stand, m) ∙ ap (listed stand) here ∙ ap (λ (w : Bool). if w then Some p.0 else None) in' in
-        subst (λ (x : Rid). is_among x xs ≡ true) (same_id p.0 id near.1) (found.each (stand, m) p.0 a at))) e);
+      let at : ids (stand, m) ≡ Some p.0 = h.listed (stand, m) ∙ ap (listed stand) here ∙ ap (λ (w : Bool). if w then Some p.0 else None) in' in
+      subst (λ (x : Rid). is_among x xs ≡ true) (same_id p.0 id near.1) (found.each (stand, m) p.0 a at))) e);
   once = once;
 }
 
@@ -162,9 +132,9 @@ pub known_is : (pair : ℕ → Option Placed) (link : Key → Option Link) (stan
 known_is pair link stand n l h at p here =
     let e : listed stand (Some p) ≡ Some l.id = ap (listed stand) (sym here) ∙ sym (h (stand, n)) ∙ ap (option_map (λ x. x.id)) at in
     ⊎_elim
-      (λ (in' : stands_in p.1 stand ≡ true). same_Some p.0 l.id (rw in' at e))
-      (λ (out : stands_in p.1 stand ≡ false). absurd (let none : None ≡ Some l.id = rw out at e in cc))
-      (cases_Bool (stands_in p.1 stand))
+    (λ (in' : stands_in p.1 stand ≡ true). same_Some p.0 l.id (rw in' at e))
+    (λ (out : stands_in p.1 stand ≡ false). absurd (let none : None ≡ Some l.id = rw out at e in cc))
+    (cases_Bool (stands_in p.1 stand))
 
 -- the pair is not among the first of the list
 pub without_start : (link : Key → Option Link) (stand : Stand) (first at : Option ℕ) (n : ℕ) → IsNext (λ t. is_some (link (stand, t))) None first → at ≡ first → is_some (link (stand, n)) ≡ true → reaches at n ≡ false → ⊥
@@ -173,9 +143,9 @@ without_start link stand first at n h e here out = false≢true (sym out ∙ ap 
 -- nor is it one that the list has gone past
 pub without_next : (link : Key → Option Link) (stand : Stand) (at older : Option ℕ) (m n : ℕ) → IsNext (λ t. is_some (link (stand, t))) (Some m) older → at ≡ Some m → is_some (link (stand, n)) ≡ true → reaches older n ≡ false → m ≢ n → reaches at n ≡ false
 without_next link stand at older m n h e here out other = ⊎_elim
-  (λ (less : n < m). absurd (false≢true (sym out ∙ h.past n here (below n m less))))
-  (λ (more : m ≤ n). ap (λ (x : Option ℕ). reaches x n) e ∙ beyond m n (omega arith))
-  (cases_lt n m)
+    (λ (less : n < m). absurd (false≢true (sym out ∙ h.past n here (below n m less))))
+    (λ (more : m ≤ n). ap (λ (x : Option ℕ). reaches x n) e ∙ beyond m n (omega arith))
+    (cases_lt n m)
   where
     below : (n m : ℕ) → n < m → nat_lt n m ≡ true
     below n m q = grind (arith, nat_tests)

@@ -1,3 +1,4 @@
+pub mod Plain
 pub mod Added
 pub mod Asked
 pub mod Chains
@@ -8,6 +9,5 @@ pub mod Covered
 pub mod Standing
 pub mod Keeping
 pub mod Scanned
-pub mod Taken
 pub mod Same
 pub mod Spared

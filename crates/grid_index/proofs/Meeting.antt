@@ -32,7 +32,7 @@ or_last false false c h = h
 and_both : (a b : Bool) → a ≡ true → b ≡ true → (a && b) ≡ true
 and_both a b g h = rw g h
 
-same_self : (a : Rid) → is_same a a ≡ true
+pub same_self : (a : Rid) → is_same a a ≡ true
 same_self a = grind (arith, common_steps)
 
 pub all_met : (asked : Bounds) (pairs : List Placed) (ids : List Rid) → AreNear asked pairs ids → All (IsMet asked ids) pairs

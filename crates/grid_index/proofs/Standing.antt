@@ -2,7 +2,6 @@
 use Rattle.std.proofs.Common.{◌≡◌, ℕ, ℤ, ◌+◌, ◌<◌, Bool, true, false, cond, ◌&&◌, ◌||◌, nat_eq, List, Option, Some, None, refl, sym, ap, subst, ◌∙◌, arith}
 use Rattle.std.specs.Prelude.{suc, is_some}
 use Rattle.std.specs.Option.{option_map}
-use Rattle.std.proofs.lemmas.Bool.{false≢true}
 use Rattle.geom_core.specs.Plane.{Bounds, IsUpright}
 use Rattle.feature_values.specs.declared.feature.Rid.{Rid}
 use Rattle.grid_index.specs.declared.lists.Link.{Link}
@@ -10,6 +9,7 @@ use Rattle.grid_index.specs.Room.{places}
 use Rattle.grid_index.specs.Cells.{cell_count, cell_at}
 use Rattle.grid_index.specs.Found.{Finds}
 use Rattle.grid_index.specs.Lists.{Stand, Key, same_stand, same_key, stand_at, stands_in, is_asked, is_among_first}
+use Rattle.grid_index.proofs.Plain.{or_none}
 use Rattle.grid_index.proofs.Covered.{cells, all_asked, all_stands, new_stand}
 use Rattle.grid_index.proofs.Finding.{finds_same}
 
@@ -35,8 +35,8 @@ pub changed_next : (old now next : Key → Option Rid) (b : Bounds) (number i : 
     → ((k : Key) → next k ≡ cond (same_key (stand, number) k) x (now k)) → (k : Key) → next k ≡ cond (is_among_first (i + 1) (stand_at b) k.0 && nat_eq number k.1) x (old k)
 changed_next old now next b number i x stand at e f k =
     f k ∙ ap (λ (s : Stand). cond (same_key (s, number) k) x (now k)) at ∙ ap (cond (same_key (stand_at b i, number) k) x) (e k)
-      ∙ changed_more (is_among_first i (stand_at b) k.0) (same_stand (stand_at b i) k.0) (nat_eq number k.1) x (old k)
-      ∙ ap (λ (w : Bool). cond (w && nat_eq number k.1) x (old k)) (sym (first_more i (stand_at b) k.0))
+    ∙ changed_more (is_among_first i (stand_at b) k.0) (same_stand (stand_at b i) k.0) (nat_eq number k.1) x (old k)
+    ∙ ap (λ (w : Bool). cond (w && nat_eq number k.1) x (old k)) (sym (first_more i (stand_at b) k.0))
 
 -- all
 pub changed_all : (old now : Key → Option Rid) (b : Bounds) (number i : ℕ) (x : Option Rid) → IsUpright b → i ≡ places b → ((k : Key) → now k ≡ cond (is_among_first i (stand_at b) k.0 && nat_eq number k.1) x (old k))
@@ -56,10 +56,6 @@ still_newest old now b number i t x stand lt at e h =
     let apart : is_among_first i (stand_at b) stand ≡ false = subst (λ (s : Stand). is_among_first i (stand_at b) s ≡ false) (sym at) (new_stand b i lt) in
     sym (some_id (old (stand, t))) ∙ ap (λ (o : Option Rid). is_some o) (sym (e (stand, t) ∙ ap (λ (w : Bool). cond (w && nat_eq number t) x (option_map (λ l. l.id) (old (stand, t)))) apart)) ∙ some_id (now (stand, t)) ∙ h
 
-or_none : (a : Bool) → (a || false) ≡ a
-or_none true = refl
-or_none false = refl
-
 or_three : (a b c : Bool) → (a || (b || c)) ≡ ((a || b) || c)
 or_three true b c = refl
 or_three false b c = refl
@@ -72,7 +68,7 @@ pub asked_next : (ids : Key → Option Rid) (b : Bounds) (i : ℕ) (cell : ℤ �
     → Finds ids (λ k. same_stand None k.0 || is_among_first (i + 1) (cells b) k.0) xs
 asked_next ids b i cell xs at h = finds_same ids (λ k. (same_stand None k.0 || is_among_first i (cells b) k.0) || same_stand (Some cell) k.0) (λ k. same_stand None k.0 || is_among_first (i + 1) (cells b) k.0) xs
     (λ k f q. ap (λ (w : Bool). same_stand None k.0 || w) (first_more i (cells b) k.0 ∙ ap (λ (c : ℤ × ℤ). is_among_first i (cells b) k.0 || same_stand (Some c) k.0) (sym at))
-      ∙ or_three (same_stand None k.0) (is_among_first i (cells b) k.0) (same_stand (Some cell) k.0)) h
+    ∙ or_three (same_stand None k.0) (is_among_first i (cells b) k.0) (same_stand (Some cell) k.0)) h
 
 pub asked_end : (ids : Key → Option Rid) (b : Bounds) (i : ℕ) (xs : List Rid) → IsUpright b → i ≡ cell_count b → Finds ids (λ k. same_stand None k.0 || is_among_first i (cells b) k.0) xs → Finds ids (λ k. is_asked b k.0) xs
 asked_end ids b i xs up last h = finds_same ids (λ k. same_stand None k.0 || is_among_first i (cells b) k.0) (λ k. is_asked b k.0) xs

@@ -84,11 +84,7 @@ pub fn is_for_all(count: usize, asked: &Box2) -> bool
 }
 
 // The features of all pairs that are near a box.
-pub fn among_all(
-    alloc: Global,
-    pairs: &HashMap<u64, (Rid, Box2)>,
-    asked: &Box2,
-) -> Mem<Vec<Rid>>
+pub fn among_all(alloc: Global, pairs: &HashMap<u64, (Rid, Box2)>, asked: &Box2) -> Mem<Vec<Rid>>
     ensures { IfOk result (λ ids. (next : ℕ) → ((n : ℕ) → next ≤ n → get nat_eq pairs.now n ≡ None) → AreNear asked.now (added next (get nat_eq pairs.now)) ids.items) }
 {
     let mut found = Found::new(alloc);

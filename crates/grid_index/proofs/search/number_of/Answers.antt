@@ -1,4 +1,4 @@
-use Rattle.std.proofs.Common.{◌≡◌, ℕ, Some, sym, subst, ◌∙◌, ⊎_elim, rules, arith, nat_eq}
+use Rattle.std.proofs.Common.{◌≡◌, ℕ, Some, sym, subst, ◌∙◌, ⊎_elim, arith, nat_eq}
 use Rattle.std.specs.HashMap.{get}
 use Rattle.std.proofs.lemmas.Bool.{cases_eq}
 use Rattle.grid_index.specs.Lists.{same_key}
@@ -12,7 +12,7 @@ loop-at-init c =
     record {
       stands = λ n p. (h.at n (sym c.first-at.ensures ∙ p)).0;
       without = λ n out here. without_start (get same_key c.args.lists.now.links) c.stand_at-stand.result _ c.first-at.result n h c.first-at.ensures
-        (stands_there (get nat_eq c.args.pairs.now) (get same_key c.args.lists.now.links) c.args.id c.args.area c.stand_at-stand.result n c.requires.listed c.places-places.ensures.upright (omega (arith, c.places-places.ensures.value, c.places-places.ensures.some)) c.stand_at-stand.ensures here) out;
+          (stands_there (get nat_eq c.args.pairs.now) (get same_key c.args.lists.now.links) c.args.id c.args.area c.stand_at-stand.result n c.requires.listed c.places-places.ensures.upright (omega (arith, c.places-places.ensures.value, c.places-places.ensures.some)) c.stand_at-stand.ensures here) out;
     }
 
 pub is_number_of-requires : goal.is_number_of-requires
@@ -29,9 +29,9 @@ loop-at-preserved c =
     record {
       stands = λ n p. (h.at n p).0;
       without = λ n out here. ⊎_elim
-        (λ (same : c.in-Some.number ≡ n). c.is_number_of.ensures.no c.if-is_number_of.false (subst (λ (x : ℕ). get nat_eq c.args.pairs.now x ≡ Some (c.args.id, c.args.area)) (sym same) here))
-        (λ other. c.loop-at.invariant.without n
+          (λ (same : c.in-Some.number ≡ n). c.is_number_of.ensures.no c.if-is_number_of.false (subst (λ (x : ℕ). get nat_eq c.args.pairs.now x ≡ Some (c.args.id, c.args.area)) (sym same) here))
+          (λ other. c.loop-at.invariant.without n
           (without_next (get same_key c.args.lists.now.links) c.stand_at-stand.result c.loop-at.at c.in-Some-link.link.older c.in-Some.number n h c.in-Some.is
-            (stands_there (get nat_eq c.args.pairs.now) (get same_key c.args.lists.now.links) c.args.id c.args.area c.stand_at-stand.result n c.requires.listed c.places-places.ensures.upright (omega (arith, c.places-places.ensures.value, c.places-places.ensures.some)) c.stand_at-stand.ensures here) out other) here)
-        (cases_eq c.in-Some.number n);
+          (stands_there (get nat_eq c.args.pairs.now) (get same_key c.args.lists.now.links) c.args.id c.args.area c.stand_at-stand.result n c.requires.listed c.places-places.ensures.upright (omega (arith, c.places-places.ensures.value, c.places-places.ensures.some)) c.stand_at-stand.ensures here) out other) here)
+          (cases_eq c.in-Some.number n);
     }

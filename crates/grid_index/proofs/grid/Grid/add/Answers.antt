@@ -1,6 +1,5 @@
-use Rattle.std.proofs.Common.{List, [], ◌∷◌, ◌++◌, ap, ◌∙◌, nat_eq}
+use Rattle.std.proofs.Common.{[], ◌∷◌, ◌++◌, ap, ◌∙◌, nat_eq}
 use Rattle.std.specs.HashMap.{get}
-use Rattle.grid_index.specs.Near.{Placed}
 use Rattle.grid_index.specs.Room.{Gridded}
 use Rattle.grid_index.specs.Lists.{id_at}
 use Rattle.grid_index.proofs.Added.{added_push}
@@ -16,4 +15,4 @@ invariant_of-self c = record {
 pub returns-clause-pairs : goal.returns-clause-pairs
 returns-clause-pairs c =
     added_push c.self.inside.next (get nat_eq c.self.inside.pairs) (get nat_eq c.keep.new.pairs) (c.args.id, c.args.area) c.keep.ensures.pairs
-      ∙ ap (λ (g : Gridded). g.pairs ++ (c.args.id, c.args.area) ∷ []) c.self.view_is
+    ∙ ap (λ (g : Gridded). g.pairs ++ (c.args.id, c.args.area) ∷ []) c.self.view_is

@@ -17,9 +17,9 @@ invariant_of-self c = record {
 pub returns-in-Some-clause-pairs : goal.returns-in-Some-clause-pairs
 returns-in-Some-clause-pairs c =
     subst (λ (g : Gridded). IsRemoved (c.args.id, c.args.area) g.pairs (added c.self.inside.next (get nat_eq c.remove.new.self))) c.self.view_is
-      (removed_one c.self.inside.next (get nat_eq c.self.inside.pairs) (get nat_eq c.remove.new.self) c.in-Some.number (c.args.id, c.args.area) c.self.invariant.listed.fresh c.in-Some.ensures.some c.remove.ensures.updates.0)
+    (removed_one c.self.inside.next (get nat_eq c.self.inside.pairs) (get nat_eq c.remove.new.self) c.in-Some.number (c.args.id, c.args.area) c.self.invariant.listed.fresh c.in-Some.ensures.some c.remove.ensures.updates.0)
 
 pub returns-in_default-clause-pairs : goal.returns-in_default-clause-pairs
 returns-in_default-clause-pairs c =
     subst (λ (g : Gridded). IsRemoved (c.args.id, c.args.area) g.pairs g.pairs) c.self.view_is
-      (removed_none c.self.inside.next (get nat_eq c.self.inside.pairs) (c.args.id, c.args.area) c.in_default.ensures.none)
+    (removed_none c.self.inside.next (get nat_eq c.self.inside.pairs) (c.args.id, c.args.area) c.in_default.ensures.none)

@@ -1,4 +1,4 @@
-use Rattle.std.proofs.Common.{Some, refl, sym, ◌∙◌}
+use Rattle.std.proofs.Common.{refl, sym, ◌∙◌}
 use Rattle.grid_index.proofs.Chains.{left_less}
 use Rattle.grid_index.proofs.lists.Lists.newer.Goals as goal
 
