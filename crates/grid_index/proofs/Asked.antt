@@ -1,11 +1,11 @@
--- A pair is near a box just where one of its stands is asked for.
+-- A pair is near a box just where one of its places is asked for.
 use Rattle.std.proofs.Common.{◌≡◌, ℤ, int_lt, Bool, true, false, Some, None, refl, ⊎_elim, arith}
 use Rattle.std.specs.Int.{int_max}
 use Rattle.std.proofs.lemmas.Int.{ints}
 use Rattle.std.proofs.lemmas.Bool.{cases_Bool, and_parts, and_from, or_left, or_right, not_from_false}
 use Rattle.geom_core.specs.Plane.{Bounds, IsUpright, are_apart}
 use Rattle.grid_index.specs.Cells.{cell_of, is_wide, is_huge, share_cell, is_near}
-use Rattle.grid_index.specs.Lists.{Stand, stands_in, is_asked}
+use Rattle.grid_index.specs.Lists.{Place, takes, is_asked}
 use Rattle.grid_index.proofs.Covered.{IsWithin, covers_from, covers_gives, upright_x, upright_y, none_of, each_of}
 
 through : (l h c : ℤ) → int_lt c l ≡ false → int_lt h c ≡ false → int_lt h l ≡ false
@@ -39,11 +39,11 @@ shared a b g h e =
       (record { from_x = x.from_a; from_y = y.from_a; to_x = x.to_a; to_y = y.to_a }, record { from_x = x.from_b; from_y = y.from_b; to_x = x.to_b; to_y = y.to_b }),
     )
 
-pub asked_near : (a b : Bounds) (stand : Stand) → is_asked a stand ≡ true → stands_in b stand ≡ true → is_near a b ≡ true
+pub asked_near : (a b : Bounds) (place : Place) → is_asked a place ≡ true → takes b place ≡ true → is_near a b ≡ true
 asked_near a b None p q = or_right (is_huge a) _ (or_left (is_wide b) _ q)
 asked_near a b (Some cell) p q = or_right (is_huge a) _ (or_right (is_wide b) _ (shares a b cell (covers_gives a cell p) (covers_gives b cell (and_parts _ _ q).1)))
 
-pub near_asked : (a b : Bounds) → IsUpright a → IsUpright b → is_huge a ≡ false → is_near a b ≡ true → (claim : Bool) → ((stand : Stand) → is_asked a stand ≡ true → stands_in b stand ≡ true → claim ≡ true) → claim ≡ true
+pub near_asked : (a b : Bounds) → IsUpright a → IsUpright b → is_huge a ≡ false → is_near a b ≡ true → (claim : Bool) → ((place : Place) → is_asked a place ≡ true → takes b place ≡ true → claim ≡ true) → claim ≡ true
 near_asked a b g h small e claim c = ⊎_elim
     (λ (wide : is_wide b ≡ true). c None refl wide)
     (λ (narrow : is_wide b ≡ false).

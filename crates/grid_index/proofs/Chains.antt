@@ -6,25 +6,25 @@ use Rattle.std.proofs.lemmas.Bool.{cases_eq, cases_lt, cases_Bool, and_parts, fa
 use Rattle.std.proofs.lemmas.Bool.Decides.{nat_tests, Decides-int_eq}
 use Rattle.grid_index.proofs.Plain.{at_number, at_other}
 use Rattle.grid_index.specs.declared.lists.Link.{Link}
-use Rattle.grid_index.specs.Lists.{Stand, Key, same_cell, same_stand, same_key, with_older, is_below, reaches, IsNext, IsChain, AreLinkedBy}
+use Rattle.grid_index.specs.Lists.{Place, Key, same_cell, same_place, same_key, with_older, is_below, reaches, IsNext, IsChain, AreLinkedBy}
 
 same_pair : (a b : ℤ × ℤ) → same_cell a b ≡ true → a ≡ b
 same_pair a b e =
     let both = and_parts _ _ e in
     λ i. ((Decides-int_eq a.0 b.0).0 both.0 i, (Decides-int_eq a.1 b.1).0 both.1 i)
 
-pub stand_is : (a b : Stand) → same_stand a b ≡ true → a ≡ b
-stand_is None None e = refl
-stand_is None (Some d) e = absurd (false≢true e)
-stand_is (Some c) None e = absurd (false≢true e)
-stand_is (Some c) (Some d) e = ap (λ (x : ℤ × ℤ). Some x) (same_pair c d e)
+pub place_is : (a b : Place) → same_place a b ≡ true → a ≡ b
+place_is None None e = refl
+place_is None (Some d) e = absurd (false≢true e)
+place_is (Some c) None e = absurd (false≢true e)
+place_is (Some c) (Some d) e = ap (λ (x : ℤ × ℤ). Some x) (same_pair c d e)
 
 same_pair_self : (a : ℤ × ℤ) → same_cell a a ≡ true
 same_pair_self a = rw ((Decides-int_eq a.0 a.0).1 refl, (Decides-int_eq a.1 a.1).1 refl) refl
 
-pub stand_self : (a : Stand) → same_stand a a ≡ true
-stand_self None = refl
-stand_self (Some c) = same_pair_self c
+pub place_self : (a : Place) → same_place a a ≡ true
+place_self None = refl
+place_self (Some c) = same_pair_self c
 
 -- a chain whose parts are told anew
 pub chain_same : (has also : ℕ → Bool) (first start : Option ℕ) (older next : ℕ → Option ℕ) → ((t : ℕ) → also t ≡ has t) → start ≡ first → ((t : ℕ) → next t ≡ older t) → IsChain has first older → IsChain also start next
@@ -71,11 +71,11 @@ pushed has also first older next n h below e f = record {
       (cases_eq n s);
 }
 
-key_here : (stand : Stand) (n t : ℕ) → same_key (stand, n) (stand, t) ≡ nat_eq n t
-key_here stand n t = rw (stand_self stand) refl
+key_here : (place : Place) (n t : ℕ) → same_key (place, n) (place, t) ≡ nat_eq n t
+key_here place n t = rw (place_self place) refl
 
-key_elsewhere : (stand d : Stand) (n t : ℕ) → same_stand stand d ≡ false → same_key (stand, n) (d, t) ≡ false
-key_elsewhere stand d n t e = rw e refl
+key_elsewhere : (place d : Place) (n t : ℕ) → same_place place d ≡ false → same_key (place, n) (d, t) ≡ false
+key_elsewhere place d n t e = rw e refl
 
 some_if : (b : Bool) (l : Link) (o : Option Link) → is_some (cond b (Some l) o) ≡ cond b true (is_some o)
 some_if true l o = refl
@@ -88,26 +88,26 @@ after_if : (b : Bool) (l : Link) (o : Option Link) → after (cond b (Some l) o)
 after_if true l o = refl
 after_if false l o = refl
 
--- in the lists of other stands nothing changes
-linked_elsewhere : (first start : Stand → Option ℕ) (link next : Key → Option Link) (d : Stand) → AreLinkedBy first link → ((t : ℕ) → next (d, t) ≡ link (d, t)) → start d ≡ first d → IsChain (λ n. is_some (next (d, n))) (start d) (λ n. after (next (d, n)))
+-- in the lists of other places nothing changes
+linked_elsewhere : (first start : Place → Option ℕ) (link next : Key → Option Link) (d : Place) → AreLinkedBy first link → ((t : ℕ) → next (d, t) ≡ link (d, t)) → start d ≡ first d → IsChain (λ n. is_some (next (d, n))) (start d) (λ n. after (next (d, n)))
 linked_elsewhere first start link next d h e f = chain_same (λ n. is_some (link (d, n))) _ (first d) _ (λ n. after (link (d, n))) _ (λ t. ap (λ (o : Option Link). is_some o) (e t)) f (λ t. ap after (e t)) (h d)
 
-pub linked_push : (first start : Stand → Option ℕ) (link next : Key → Option Link) (stand : Stand) (n : ℕ) (l : Link) → AreLinkedBy first link → ((t : ℕ) → is_some (link (stand, t)) ≡ true → t < n) → l.older ≡ first stand
-    → ((k : Key) → next k ≡ cond (same_key (stand, n) k) (Some l) (link k)) → ((d : Stand) → start d ≡ cond (same_stand stand d) (Some n) (first d)) → AreLinkedBy start next
-linked_push first start link next stand n l h below older e f = λ d. ⊎_elim
-    (λ (same : same_stand stand d ≡ true).
-    let P : Stand → Type 0 = λ x. IsChain (λ m. is_some (next (x, m))) (start x) (λ m. after (next (x, m))) in
-    let now : start stand ≡ Some n = f stand ∙ rw (stand_self stand) refl in
-    subst P (stand_is stand d same) (rw now (pushed (λ t. is_some (link (stand, t))) _ (first stand) (λ t. after (link (stand, t))) _ n (h stand) below
-    (λ t. ap (λ (o : Option Link). is_some o) (e (stand, t)) ∙ some_if (same_key (stand, n) (stand, t)) l (link (stand, t)) ∙ ap (λ (b : Bool). cond b true (is_some (link (stand, t)))) (key_here stand n t))
-    (λ t. ap after (e (stand, t)) ∙ after_if (same_key (stand, n) (stand, t)) l (link (stand, t)) ∙ rw (key_here stand n t, older) refl))))
-    (λ (other : same_stand stand d ≡ false).
+pub linked_push : (first start : Place → Option ℕ) (link next : Key → Option Link) (place : Place) (n : ℕ) (l : Link) → AreLinkedBy first link → ((t : ℕ) → is_some (link (place, t)) ≡ true → t < n) → l.older ≡ first place
+    → ((k : Key) → next k ≡ cond (same_key (place, n) k) (Some l) (link k)) → ((d : Place) → start d ≡ cond (same_place place d) (Some n) (first d)) → AreLinkedBy start next
+linked_push first start link next place n l h below older e f = λ d. ⊎_elim
+    (λ (same : same_place place d ≡ true).
+    let P : Place → Type 0 = λ x. IsChain (λ m. is_some (next (x, m))) (start x) (λ m. after (next (x, m))) in
+    let now : start place ≡ Some n = f place ∙ rw (place_self place) refl in
+    subst P (place_is place d same) (rw now (pushed (λ t. is_some (link (place, t))) _ (first place) (λ t. after (link (place, t))) _ n (h place) below
+    (λ t. ap (λ (o : Option Link). is_some o) (e (place, t)) ∙ some_if (same_key (place, n) (place, t)) l (link (place, t)) ∙ ap (λ (b : Bool). cond b true (is_some (link (place, t)))) (key_here place n t))
+    (λ t. ap after (e (place, t)) ∙ after_if (same_key (place, n) (place, t)) l (link (place, t)) ∙ rw (key_here place n t, older) refl))))
+    (λ (other : same_place place d ≡ false).
     linked_elsewhere first start link next d h
-    (λ t. e (d, t) ∙ ap (λ (b : Bool). cond b (Some l) (link (d, t))) (key_elsewhere stand d n t other))
+    (λ t. e (d, t) ∙ ap (λ (b : Bool). cond b (Some l) (link (d, t))) (key_elsewhere place d n t other))
     (f d ∙ ap (λ (b : Bool). cond b (Some n) (first d)) other))
-    (cases_Bool (same_stand stand d))
+    (cases_Bool (same_place place d))
 
-pub linked_same : (first start : Stand → Option ℕ) (link next : Key → Option Link) → AreLinkedBy first link → ((k : Key) → next k ≡ link k) → ((d : Stand) → start d ≡ first d) → AreLinkedBy start next
+pub linked_same : (first start : Place → Option ℕ) (link next : Key → Option Link) → AreLinkedBy first link → ((k : Key) → next k ≡ link k) → ((d : Place) → start d ≡ first d) → AreLinkedBy start next
 linked_same first start link next h e f = λ d. linked_elsewhere first start link next d h (λ t. e (d, t)) (f d)
 
 id_if : (b : Bool) (l : Link) (o : Option Link) → option_map (λ x. x.id) (cond b (Some l) o) ≡ cond b (Some l.id) (option_map (λ x. x.id) o)
@@ -230,21 +230,21 @@ after_none_if : (b : Bool) (o : Option Link) → after (cond b None o) ≡ cond 
 after_none_if true o = refl
 after_none_if false o = refl
 
-pub linked_take_first : (first start : Stand → Option ℕ) (link next : Key → Option Link) (stand : Stand) (n : ℕ) (o : Option ℕ) → AreLinkedBy first link → first stand ≡ Some n → o ≡ after (link (stand, n))
-    → ((k : Key) → next k ≡ cond (same_key (stand, n) k) None (link k)) → ((d : Stand) → start d ≡ cond (same_stand stand d) o (first d)) → AreLinkedBy start next
-linked_take_first first start link next stand n o h begins older e f = λ d. ⊎_elim
-    (λ (same : same_stand stand d ≡ true).
-    let P : Stand → Type 0 = λ x. IsChain (λ m. is_some (next (x, m))) (start x) (λ m. after (next (x, m))) in
-    let now : start stand ≡ after (link (stand, n)) = f stand ∙ rw (stand_self stand, older) refl in
-    let was : IsChain (λ m. is_some (link (stand, m))) (Some n) (λ m. after (link (stand, m))) = subst (λ (x : Option ℕ). IsChain (λ m. is_some (link (stand, m))) x (λ m. after (link (stand, m)))) begins (h stand) in
-    subst P (stand_is stand d same) (rw now (taken_first (λ t. is_some (link (stand, t))) _ (λ t. after (link (stand, t))) _ n was
-    (λ t. ap (λ (x : Option Link). is_some x) (e (stand, t)) ∙ none_if (same_key (stand, n) (stand, t)) (link (stand, t)) ∙ ap (λ (b : Bool). cond b false (is_some (link (stand, t)))) (key_here stand n t))
-    (λ t. ap after (e (stand, t)) ∙ after_none_if (same_key (stand, n) (stand, t)) (link (stand, t)) ∙ ap (λ (b : Bool). cond b None (after (link (stand, t)))) (key_here stand n t)))))
-    (λ (other : same_stand stand d ≡ false).
+pub linked_take_first : (first start : Place → Option ℕ) (link next : Key → Option Link) (place : Place) (n : ℕ) (o : Option ℕ) → AreLinkedBy first link → first place ≡ Some n → o ≡ after (link (place, n))
+    → ((k : Key) → next k ≡ cond (same_key (place, n) k) None (link k)) → ((d : Place) → start d ≡ cond (same_place place d) o (first d)) → AreLinkedBy start next
+linked_take_first first start link next place n o h begins older e f = λ d. ⊎_elim
+    (λ (same : same_place place d ≡ true).
+    let P : Place → Type 0 = λ x. IsChain (λ m. is_some (next (x, m))) (start x) (λ m. after (next (x, m))) in
+    let now : start place ≡ after (link (place, n)) = f place ∙ rw (place_self place, older) refl in
+    let was : IsChain (λ m. is_some (link (place, m))) (Some n) (λ m. after (link (place, m))) = subst (λ (x : Option ℕ). IsChain (λ m. is_some (link (place, m))) x (λ m. after (link (place, m)))) begins (h place) in
+    subst P (place_is place d same) (rw now (taken_first (λ t. is_some (link (place, t))) _ (λ t. after (link (place, t))) _ n was
+    (λ t. ap (λ (x : Option Link). is_some x) (e (place, t)) ∙ none_if (same_key (place, n) (place, t)) (link (place, t)) ∙ ap (λ (b : Bool). cond b false (is_some (link (place, t)))) (key_here place n t))
+    (λ t. ap after (e (place, t)) ∙ after_none_if (same_key (place, n) (place, t)) (link (place, t)) ∙ ap (λ (b : Bool). cond b None (after (link (place, t)))) (key_here place n t)))))
+    (λ (other : same_place place d ≡ false).
     linked_elsewhere first start link next d h
-    (λ t. e (d, t) ∙ ap (λ (b : Bool). cond b None (link (d, t))) (key_elsewhere stand d n t other))
+    (λ t. e (d, t) ∙ ap (λ (b : Bool). cond b None (link (d, t))) (key_elsewhere place d n t other))
     (f d ∙ ap (λ (b : Bool). cond b o (first d)) other))
-    (cases_Bool (same_stand stand d))
+    (cases_Bool (same_place place d))
 
 relinked_some : (b : Bool) (o : Option ℕ) (x : Option Link) → is_some (cond b (option_map (with_older o) x) x) ≡ is_some x
 relinked_some false o x = refl
@@ -260,40 +260,40 @@ relinked_id false o x = refl
 relinked_id true o None = refl
 relinked_id true o (Some l) = refl
 
-pub key_same : (stand : Stand) (n : ℕ) → same_key (stand, n) (stand, n) ≡ true
-key_same stand n = key_here stand n n ∙ eq-eqb n n refl
+pub key_same : (place : Place) (n : ℕ) → same_key (place, n) (place, n) ≡ true
+key_same place n = key_here place n n ∙ eq-eqb n n refl
 
-key_other : (stand : Stand) (n t : ℕ) → n ≢ t → same_key (stand, n) (stand, t) ≡ false
-key_other stand n t other = key_here stand n t ∙ ne_eqb n t other
+key_other : (place : Place) (n t : ℕ) → n ≢ t → same_key (place, n) (place, t) ≡ false
+key_other place n t other = key_here place n t ∙ ne_eqb n t other
 
 pub key_is : (a b : Key) → same_key a b ≡ true → a ≡ b
-key_is a b e = let both = and_parts _ _ e in λ i. (stand_is a.0 b.0 both.0 i, eqb-true a.1 b.1 both.1 i)
+key_is a b e = let both = and_parts _ _ e in λ i. (place_is a.0 b.0 both.0 i, eqb-true a.1 b.1 both.1 i)
 
-pub linked_take_next : (first : Stand → Option ℕ) (link left_over next : Key → Option Link) (stand : Stand) (n m : ℕ) (o : Option ℕ) → AreLinkedBy first link → is_some (link (stand, m)) ≡ true → after (link (stand, m)) ≡ Some n → o ≡ after (link (stand, n))
-    → ((k : Key) → left_over k ≡ cond (same_key (stand, n) k) None (link k)) → ((k : Key) → next k ≡ cond (same_key (stand, m) k) (option_map (with_older o) (left_over k)) (left_over k)) → AreLinkedBy first next
-linked_take_next first link left_over next stand n m o h here to older e f = λ d. ⊎_elim
-    (λ (same : same_stand stand d ≡ true).
-    let P : Stand → Type 0 = λ x. IsChain (λ m. is_some (next (x, m))) (first x) (λ m. after (next (x, m))) in
-    let low : n < m = below_lt n m (((h stand).step m here).at n to).1 in
-    let stays : (t : ℕ) → n ≢ t → left_over (stand, t) ≡ link (stand, t) = λ t q. e (stand, t) ∙ ap (λ (b : Bool). cond b None (link (stand, t))) (key_other stand n t q) in
-    let kept : is_some (left_over (stand, m)) ≡ true = ap (λ (x : Option Link). is_some x) (stays m (omega arith)) ∙ here in
-    subst P (stand_is stand d same) (taken_next (λ t. is_some (link (stand, t))) _ (first stand) (λ t. after (link (stand, t))) _ n m (h stand) here to
-    (λ t. ap (λ (x : Option Link). is_some x) (f (stand, t)) ∙ relinked_some (same_key (stand, m) (stand, t)) o (left_over (stand, t)) ∙ ap (λ (x : Option Link). is_some x) (e (stand, t))
-    ∙ none_if (same_key (stand, n) (stand, t)) (link (stand, t)) ∙ ap (λ (b : Bool). cond b false (is_some (link (stand, t)))) (key_here stand n t))
-    (λ t p q. ap after (f (stand, t) ∙ ap (λ (b : Bool). cond b (option_map (with_older o) (left_over (stand, t))) (left_over (stand, t))) (key_other stand m t q) ∙ stays t p))
-    (ap after (f (stand, m) ∙ ap (λ (b : Bool). cond b (option_map (with_older o) (left_over (stand, m))) (left_over (stand, m))) (key_same stand m)) ∙ relinked_after o (left_over (stand, m)) kept ∙ older)))
-    (λ (other : same_stand stand d ≡ false).
+pub linked_take_next : (first : Place → Option ℕ) (link left_over next : Key → Option Link) (place : Place) (n m : ℕ) (o : Option ℕ) → AreLinkedBy first link → is_some (link (place, m)) ≡ true → after (link (place, m)) ≡ Some n → o ≡ after (link (place, n))
+    → ((k : Key) → left_over k ≡ cond (same_key (place, n) k) None (link k)) → ((k : Key) → next k ≡ cond (same_key (place, m) k) (option_map (with_older o) (left_over k)) (left_over k)) → AreLinkedBy first next
+linked_take_next first link left_over next place n m o h here to older e f = λ d. ⊎_elim
+    (λ (same : same_place place d ≡ true).
+    let P : Place → Type 0 = λ x. IsChain (λ m. is_some (next (x, m))) (first x) (λ m. after (next (x, m))) in
+    let low : n < m = below_lt n m (((h place).step m here).at n to).1 in
+    let stays : (t : ℕ) → n ≢ t → left_over (place, t) ≡ link (place, t) = λ t q. e (place, t) ∙ ap (λ (b : Bool). cond b None (link (place, t))) (key_other place n t q) in
+    let kept : is_some (left_over (place, m)) ≡ true = ap (λ (x : Option Link). is_some x) (stays m (omega arith)) ∙ here in
+    subst P (place_is place d same) (taken_next (λ t. is_some (link (place, t))) _ (first place) (λ t. after (link (place, t))) _ n m (h place) here to
+    (λ t. ap (λ (x : Option Link). is_some x) (f (place, t)) ∙ relinked_some (same_key (place, m) (place, t)) o (left_over (place, t)) ∙ ap (λ (x : Option Link). is_some x) (e (place, t))
+    ∙ none_if (same_key (place, n) (place, t)) (link (place, t)) ∙ ap (λ (b : Bool). cond b false (is_some (link (place, t)))) (key_here place n t))
+    (λ t p q. ap after (f (place, t) ∙ ap (λ (b : Bool). cond b (option_map (with_older o) (left_over (place, t))) (left_over (place, t))) (key_other place m t q) ∙ stays t p))
+    (ap after (f (place, m) ∙ ap (λ (b : Bool). cond b (option_map (with_older o) (left_over (place, m))) (left_over (place, m))) (key_same place m)) ∙ relinked_after o (left_over (place, m)) kept ∙ older)))
+    (λ (other : same_place place d ≡ false).
     linked_elsewhere first first link next d h
-    (λ t. f (d, t) ∙ ap (λ (b : Bool). cond b (option_map (with_older o) (left_over (d, t))) (left_over (d, t))) (key_elsewhere stand d m t other) ∙ e (d, t) ∙ ap (λ (b : Bool). cond b None (link (d, t))) (key_elsewhere stand d n t other))
+    (λ t. f (d, t) ∙ ap (λ (b : Bool). cond b (option_map (with_older o) (left_over (d, t))) (left_over (d, t))) (key_elsewhere place d m t other) ∙ e (d, t) ∙ ap (λ (b : Bool). cond b None (link (d, t))) (key_elsewhere place d n t other))
     refl)
-    (cases_Bool (same_stand stand d))
+    (cases_Bool (same_place place d))
 
--- the pair that leads to the one that is taken stands on
-pub leads_on : (first : Stand → Option ℕ) (link left_over : Key → Option Link) (stand : Stand) (n m : ℕ) → AreLinkedBy first link → is_some (link (stand, m)) ≡ true → after (link (stand, m)) ≡ Some n
-    → ((k : Key) → left_over k ≡ cond (same_key (stand, n) k) None (link k)) → is_some (left_over (stand, m)) ≡ true
-leads_on first link left_over stand n m h here to e =
-    let low : n < m = below_lt n m (((h stand).step m here).at n to).1 in
-    ap (λ (x : Option Link). is_some x) (e (stand, m) ∙ ap (λ (b : Bool). cond b None (link (stand, m))) (key_other stand n m (omega arith))) ∙ here
+-- the pair that leads to the one that is taken stays
+pub leads_on : (first : Place → Option ℕ) (link left_over : Key → Option Link) (place : Place) (n m : ℕ) → AreLinkedBy first link → is_some (link (place, m)) ≡ true → after (link (place, m)) ≡ Some n
+    → ((k : Key) → left_over k ≡ cond (same_key (place, n) k) None (link k)) → is_some (left_over (place, m)) ≡ true
+leads_on first link left_over place n m h here to e =
+    let low : n < m = below_lt n m (((h place).step m here).at n to).1 in
+    ap (λ (x : Option Link). is_some x) (e (place, m) ∙ ap (λ (b : Bool). cond b None (link (place, m))) (key_other place n m (omega arith))) ∙ here
 
 pub ids_relink : (link left_over next : Key → Option Link) (key other : Key) (o : Option ℕ) → ((k : Key) → left_over k ≡ cond (same_key key k) None (link k)) → ((k : Key) → next k ≡ cond (same_key other k) (option_map (with_older o) (left_over k)) (left_over k))
     → (k : Key) → option_map (λ x. x.id) (next k) ≡ cond (same_key key k) None (option_map (λ x. x.id) (link k))
@@ -310,5 +310,5 @@ ids_absent link key absent k = ⊎_elim
     no_id None e = refl
     no_id (Some l) e = absurd (false≢true (sym e))
 
-pub step_to : (first : Stand → Option ℕ) (link : Key → Option Link) (stand : Stand) (n : ℕ) (l : Link) → AreLinkedBy first link → link (stand, n) ≡ Some l → IsNext (λ t. is_some (link (stand, t))) (Some n) l.older
-step_to first link stand n l h e = subst (λ (x : Option ℕ). IsNext (λ t. is_some (link (stand, t))) (Some n) x) (ap after e) ((h stand).step n (ap (λ (x : Option Link). is_some x) e))
+pub step_to : (first : Place → Option ℕ) (link : Key → Option Link) (place : Place) (n : ℕ) (l : Link) → AreLinkedBy first link → link (place, n) ≡ Some l → IsNext (λ t. is_some (link (place, t))) (Some n) l.older
+step_to first link place n l h e = subst (λ (x : Option ℕ). IsNext (λ t. is_some (link (place, t))) (Some n) x) (ap after e) ((h place).step n (ap (λ (x : Option Link). is_some x) e))

@@ -1,4 +1,4 @@
--- The stands of a box, one after another: each of them, and none twice.
+-- The places of a box, one after another: each of them, and none twice.
 use Rattle.std.proofs.Common.{◌≡◌, ◌≢◌, ℕ, ℤ, pos, ◌+◌, ◌*◌, ◌/◌, ◌%◌, ◌<◌, ◌≤◌, ◌+ℤ◌, ◌-ℤ◌, ◌≤ℤ◌, int_lt, unsigned_abs, Bool, true, false, ◌&&◌, ◌||◌, not, Some, None, refl, sym, ap, subst, ◌∙◌, ⊎_elim, arith}
 use Rattle.std.specs.Prelude.{zero, suc, if◌then◌else◌}
 use Rattle.std.proofs.lemmas.Int.{ints}
@@ -9,23 +9,23 @@ use Rattle.std.proofs.lemmas.Nat.{div_below, mod_below, div-mul-add, mod-mul-add
 use Rattle.geom_core.specs.Plane.{Bounds, IsUpright, are_apart}
 use Rattle.grid_index.specs.Cells.{cell_of, span, cell_count, covers, cell_at, is_wide}
 use Rattle.grid_index.specs.Room.{places}
-use Rattle.grid_index.specs.Lists.{Stand, same_stand, stand_at, stands_in, is_asked, is_among_first}
+use Rattle.grid_index.specs.Lists.{Place, same_place, place_at, takes, is_asked, is_among_first}
 use Rattle.grid_index.proofs.Plain.{both_ways}
-use Rattle.grid_index.proofs.Chains.{stand_is, stand_self}
+use Rattle.grid_index.proofs.Chains.{place_is, place_self}
 use Rattle.grid_index.proofs.Meeting.{cell_keeps}
 
-pub first_of : (n : ℕ) (stands : ℕ → Stand) (stand : Stand) (i : ℕ) → i < n → stands i ≡ stand → is_among_first n stands stand ≡ true
-first_of zero stands stand i lt e = absurd (omega arith)
-first_of (suc n) stands stand i lt e = ⊎_elim
-    (λ (same : i ≡ n). or_right _ _ (subst (λ (x : Stand). same_stand x stand ≡ true) (sym (ap stands (sym same) ∙ e)) (stand_self stand)))
-    (λ (other : i ≢ n). or_left _ _ (first_of n stands stand i (omega arith) e))
+pub first_of : (n : ℕ) (at : ℕ → Place) (place : Place) (i : ℕ) → i < n → at i ≡ place → is_among_first n at place ≡ true
+first_of zero at place i lt e = absurd (omega arith)
+first_of (suc n) at place i lt e = ⊎_elim
+    (λ (same : i ≡ n). or_right _ _ (subst (λ (x : Place). same_place x place ≡ true) (sym (ap at (sym same) ∙ e)) (place_self place)))
+    (λ (other : i ≢ n). or_left _ _ (first_of n at place i (omega arith) e))
     (cases_eq i n)
 
-pub of_first : (n : ℕ) (stands : ℕ → Stand) (stand : Stand) (claim : Bool) → ((i : ℕ) → i < n → stands i ≡ stand → claim ≡ true) → is_among_first n stands stand ≡ true → claim ≡ true
-of_first zero stands stand claim h e = absurd (false≢true e)
-of_first (suc n) stands stand claim h e = ⊎_elim
-    (λ (l : is_among_first n stands stand ≡ true). of_first n stands stand claim (λ i lt. h i (omega arith)) l)
-    (λ (r : same_stand (stands n) stand ≡ true). h n (omega arith) (stand_is _ _ r))
+pub of_first : (n : ℕ) (at : ℕ → Place) (place : Place) (claim : Bool) → ((i : ℕ) → i < n → at i ≡ place → claim ≡ true) → is_among_first n at place ≡ true → claim ≡ true
+of_first zero at place claim h e = absurd (false≢true e)
+of_first (suc n) at place claim h e = ⊎_elim
+    (λ (l : is_among_first n at place ≡ true). of_first n at place claim (λ i lt. h i (omega arith)) l)
+    (λ (r : same_place (at n) place ≡ true). h n (omega arith) (place_is _ _ r))
     (or_cases _ _ e)
 
 in_span : (l h : ℤ) (a : ℕ) → int_lt h l ≡ false → a < span l h → (int_lt (l +ℤ pos a) l ≡ false) × (int_lt h (l +ℤ pos a) ≡ false)
@@ -114,7 +114,7 @@ pub cell_step : (i w h : ℕ) → 0 < h → i < w * h → w ≤ 65_537 → i / h
 cell_step i w h some lt bound = let low : i / h < w = div_below i h w some lt in omega arith
 
 -- the cells of a box one after another
-abbrev pub cells : Bounds → ℕ → Stand
+abbrev pub cells : Bounds → ℕ → Place
 cells b i = Some (cell_at b i)
 
 no_cell : (b : Bounds) (n : ℕ) → is_among_first n (cells b) None ≡ false
@@ -126,30 +126,30 @@ all_cells b h cell = both_ways _ _
     (λ e. let k = cell_numbered b cell e in first_of (cell_count b) (cells b) (Some cell) k.0 k.1.0 (ap (λ (x : ℤ × ℤ). Some x) k.1.1))
 
 -- the wide list and the cells of a box are where pairs near it are asked for
-pub all_asked : (b : Bounds) → IsUpright b → (stand : Stand) → (same_stand None stand || is_among_first (cell_count b) (cells b) stand) ≡ is_asked b stand
+pub all_asked : (b : Bounds) → IsUpright b → (place : Place) → (same_place None place || is_among_first (cell_count b) (cells b) place) ≡ is_asked b place
 all_asked b h None = refl
 all_asked b h (Some cell) = all_cells b h cell
 
-all_by : (wide : Bool) (b : Bounds) → IsUpright b → (stand : Stand) → is_among_first (if wide then 1 else cell_count b) (λ i. if wide then None else Some (cell_at b i)) stand ≡ elim stand as (λ _. Bool) [ None ↦ wide | Some cell ↦ not wide && covers b cell ]
+all_by : (wide : Bool) (b : Bounds) → IsUpright b → (place : Place) → is_among_first (if wide then 1 else cell_count b) (λ i. if wide then None else Some (cell_at b i)) place ≡ elim place as (λ _. Bool) [ None ↦ wide | Some cell ↦ not wide && covers b cell ]
 all_by true b h None = refl
 all_by true b h (Some cell) = refl
 all_by false b h None = no_cell b (cell_count b)
 all_by false b h (Some cell) = all_cells b h cell
 
--- the stands of a box are all those that it takes
-pub all_stands : (b : Bounds) → IsUpright b → (stand : Stand) → is_among_first (places b) (stand_at b) stand ≡ stands_in b stand
+-- the places of a box are all those that it takes
+pub all_places : (b : Bounds) → IsUpright b → (place : Place) → is_among_first (places b) (place_at b) place ≡ takes b place
 unfolding places
-all_stands b h None = all_by (is_wide b) b h None
-all_stands b h (Some cell) = all_by (is_wide b) b h (Some cell)
+all_places b h None = all_by (is_wide b) b h None
+all_places b h (Some cell) = all_by (is_wide b) b h (Some cell)
 
 once_by : (wide : Bool) (b : Bounds) (i j : ℕ) → i < (if wide then 1 else cell_count b) → j < (if wide then 1 else cell_count b) → (if wide then None else Some (cell_at b i)) ≡ (if wide then None else Some (cell_at b j)) → i ≡ j
 once_by true b i j p q e = omega arith
 once_by false b i j p q e = cell_once b i j (same_Some _ _ e)
 
-stand_once : (b : Bounds) (i j : ℕ) → i < places b → j < places b → stand_at b i ≡ stand_at b j → i ≡ j
+place_once : (b : Bounds) (i j : ℕ) → i < places b → j < places b → place_at b i ≡ place_at b j → i ≡ j
 unfolding places
-stand_once b i j p q e = once_by (is_wide b) b i j p q e
+place_once b i j p q e = once_by (is_wide b) b i j p q e
 
--- the next stand of a box is another than those before
-pub new_stand : (b : Bounds) (i : ℕ) → i < places b → is_among_first i (stand_at b) (stand_at b i) ≡ false
-new_stand b i lt = false_from_ne_true _ (λ e. false≢true (of_first i (stand_at b) (stand_at b i) false (λ j low q. let same : j ≡ i = stand_once b j i (omega arith) lt q in absurd (omega arith)) e))
+-- the next place of a box is another than those before
+pub new_place : (b : Bounds) (i : ℕ) → i < places b → is_among_first i (place_at b) (place_at b i) ≡ false
+new_place b i lt = false_from_ne_true _ (λ e. false≢true (of_first i (place_at b) (place_at b i) false (λ j low q. let same : j ≡ i = place_once b j i (omega arith) lt q in absurd (omega arith)) e))

@@ -9,9 +9,9 @@ use Rattle.feature_values.specs.declared.feature.Rid.{Rid}
 use Rattle.grid_index.specs.declared.lists.Link.{Link}
 use Rattle.grid_index.specs.Near.{is_among, is_same}
 use Rattle.grid_index.specs.Found.{Finds}
-use Rattle.grid_index.specs.Lists.{Stand, Key, same_stand, same_key, reaches, is_below, IsNext}
+use Rattle.grid_index.specs.Lists.{Place, Key, same_place, same_key, reaches, is_below, IsNext}
 use Rattle.grid_index.proofs.Meeting.{same_self}
-use Rattle.grid_index.proofs.Chains.{key_is, stand_is, key_same, below_lt, lt_below}
+use Rattle.grid_index.proofs.Chains.{key_is, place_is, key_same, below_lt, lt_below}
 
 pub finds_none : (ids : Key → Option Rid) (xs : List Rid) → xs ≡ [] → Finds ids (λ _. false) xs
 finds_none ids xs e = record {
@@ -68,16 +68,16 @@ some_at None f q = cc
 some_at (Some l) f q = refl
 
 -- one more pair of a list
-pub finds_next : (link : Key → Option Link) (gone : Key → Bool) (stand : Stand) (at : Option ℕ) (n : ℕ) (l : Link) (xs ys : List Rid) → IsNext (λ t. is_some (link (stand, t))) (Some n) l.older → link (stand, n) ≡ Some l → at ≡ Some n
-    → ((f : Rid) → is_among f ys ≡ (is_among f xs || is_same l.id f)) → Finds (λ k. option_map (λ x. x.id) (link k)) (λ k. gone k || (same_stand stand k.0 && not (reaches at k.1))) xs
-    → Finds (λ k. option_map (λ x. x.id) (link k)) (λ k. gone k || (same_stand stand k.0 && not (reaches l.older k.1))) ys
-finds_next link gone stand None n l xs ys next here is e h = cc
-finds_next link gone stand (Some m) n l xs ys next here is e h =
-    finds_more _ _ _ (stand, n) l.id xs ys (ap (option_map (λ x. x.id)) here) e same_self
-    (λ k f q. gone_on (gone k) (same_stand stand k.0) (reaches l.older k.1) (nat_le k.1 n) (nat_eq n k.1)
+pub finds_next : (link : Key → Option Link) (gone : Key → Bool) (place : Place) (at : Option ℕ) (n : ℕ) (l : Link) (xs ys : List Rid) → IsNext (λ t. is_some (link (place, t))) (Some n) l.older → link (place, n) ≡ Some l → at ≡ Some n
+    → ((f : Rid) → is_among f ys ≡ (is_among f xs || is_same l.id f)) → Finds (λ k. option_map (λ x. x.id) (link k)) (λ k. gone k || (same_place place k.0 && not (reaches at k.1))) xs
+    → Finds (λ k. option_map (λ x. x.id) (link k)) (λ k. gone k || (same_place place k.0 && not (reaches l.older k.1))) ys
+finds_next link gone place None n l xs ys next here is e h = cc
+finds_next link gone place (Some m) n l xs ys next here is e h =
+    finds_more _ _ _ (place, n) l.id xs ys (ap (option_map (λ x. x.id)) here) e same_self
+    (λ k f q. gone_on (gone k) (same_place place k.0) (reaches l.older k.1) (nat_le k.1 n) (nat_eq n k.1)
     (λ same. ahead l.older n k.1 (λ m p. below_lt m n (next.at m p).1)
-    (λ low. next.past k.1 (subst (λ (x : Stand). is_some (link (x, k.1)) ≡ true) (sym (stand_is stand k.0 same)) (some_at (link k) f q)) (lt_below k.1 n low))))
-    (subst (λ (x : ℕ). Finds (λ k. option_map (λ x. x.id) (link k)) (λ k. gone k || (same_stand stand k.0 && not (reaches (Some x) k.1))) xs) (same_Some m n is) h)
+    (λ low. next.past k.1 (subst (λ (x : Place). is_some (link (x, k.1)) ≡ true) (sym (place_is place k.0 same)) (some_at (link k) f q)) (lt_below k.1 n low))))
+    (subst (λ (x : ℕ). Finds (λ k. option_map (λ x. x.id) (link k)) (λ k. gone k || (same_place place k.0 && not (reaches (Some x) k.1))) xs) (same_Some m n is) h)
 
 keeps : (a s r : Bool) → (s ≡ true → r ≡ true) → (a || (s && not r)) ≡ a
 keeps true s r e = refl
@@ -85,17 +85,17 @@ keeps false true r e = rw (e refl) refl
 keeps false false r e = refl
 
 -- at the start of a list
-pub finds_start : (link : Key → Option Link) (gone : Key → Bool) (stand : Stand) (first at : Option ℕ) (xs : List Rid) → IsNext (λ t. is_some (link (stand, t))) None first → at ≡ first
-    → Finds (λ k. option_map (λ x. x.id) (link k)) gone xs → Finds (λ k. option_map (λ x. x.id) (link k)) (λ k. gone k || (same_stand stand k.0 && not (reaches at k.1))) xs
-finds_start link gone stand first at xs start e h = finds_same _ gone _ xs
-    (λ k f q. keeps (gone k) (same_stand stand k.0) (reaches at k.1) (λ same. ap (λ (x : Option ℕ). reaches x k.1) e ∙ start.past k.1 (subst (λ (x : Stand). is_some (link (x, k.1)) ≡ true) (sym (stand_is stand k.0 same)) (some_at (link k) f q)) refl)) h
+pub finds_start : (link : Key → Option Link) (gone : Key → Bool) (place : Place) (first at : Option ℕ) (xs : List Rid) → IsNext (λ t. is_some (link (place, t))) None first → at ≡ first
+    → Finds (λ k. option_map (λ x. x.id) (link k)) gone xs → Finds (λ k. option_map (λ x. x.id) (link k)) (λ k. gone k || (same_place place k.0 && not (reaches at k.1))) xs
+finds_start link gone place first at xs start e h = finds_same _ gone _ xs
+    (λ k f q. keeps (gone k) (same_place place k.0) (reaches at k.1) (λ same. ap (λ (x : Option ℕ). reaches x k.1) e ∙ start.past k.1 (subst (λ (x : Place). is_some (link (x, k.1)) ≡ true) (sym (place_is place k.0 same)) (some_at (link k) f q)) refl)) h
 
 all_on : (a s : Bool) → (a || s) ≡ (a || (s && not false))
 all_on a true = refl
 all_on a false = refl
 
 -- at its end
-pub finds_end : (ids : Key → Option Rid) (gone : Key → Bool) (stand : Stand) (at : Option ℕ) (xs : List Rid) → at ≡ None → Finds ids (λ k. gone k || (same_stand stand k.0 && not (reaches at k.1))) xs
-    → Finds ids (λ k. gone k || same_stand stand k.0) xs
-finds_end ids gone stand None xs e h = finds_same ids _ _ xs (λ k f q. all_on (gone k) (same_stand stand k.0)) h
-finds_end ids gone stand (Some n) xs e h = cc
+pub finds_end : (ids : Key → Option Rid) (gone : Key → Bool) (place : Place) (at : Option ℕ) (xs : List Rid) → at ≡ None → Finds ids (λ k. gone k || (same_place place k.0 && not (reaches at k.1))) xs
+    → Finds ids (λ k. gone k || same_place place k.0) xs
+finds_end ids gone place None xs e h = finds_same ids _ _ xs (λ k f q. all_on (gone k) (same_place place k.0)) h
+finds_end ids gone place (Some n) xs e h = cc

@@ -13,12 +13,12 @@ use Rattle.grid_index.specs.Cells.{is_huge, is_near}
 use Rattle.grid_index.specs.Room.{places}
 use Rattle.grid_index.specs.Near.{Placed, is_among, is_same, puts_near, AreNear}
 use Rattle.grid_index.specs.Found.{Finds}
-use Rattle.grid_index.specs.Lists.{Stand, Key, stand_at, stands_in, is_asked, reaches, IsNext}
+use Rattle.grid_index.specs.Lists.{Place, Key, place_at, takes, is_asked, reaches, IsNext}
 use Rattle.grid_index.specs.Kept.{added, listed, AreListed}
 use Rattle.grid_index.proofs.Plain.{both_ways, at_number, at_other}
 use Rattle.grid_index.proofs.Added.{added_any, any_added}
 use Rattle.grid_index.proofs.Asked.{asked_near, near_asked}
-use Rattle.grid_index.proofs.Covered.{first_of, all_stands}
+use Rattle.grid_index.proofs.Covered.{first_of, all_places}
 use Rattle.grid_index.proofs.Meeting.{same_self}
 use Rattle.grid_index.proofs.Same.{same_id}
 
@@ -43,7 +43,7 @@ not_here false x o = refl
 
 -- a pair comes with the next number
 pub listed_push : (pair also : ℕ → Option Placed) (next : ℕ) (ids now : Key → Option Rid) (id : Rid) (b : Bounds) → AreListed pair next ids → IsUpright b → ((t : ℕ) → also t ≡ cond (nat_eq next t) (Some (id, b)) (pair t))
-    → ((k : Key) → now k ≡ cond (stands_in b k.0 && nat_eq next k.1) (Some id) (ids k)) → AreListed also (next + 1) now
+    → ((k : Key) → now k ≡ cond (takes b k.0 && nat_eq next k.1) (Some id) (ids k)) → AreListed also (next + 1) now
 listed_push pair also next ids now id b h up e f = record {
   fresh = λ n le. e n ∙ at_other next n (Some (id, b)) (pair n) (omega arith) ∙ h.fresh n (omega arith);
   upright = λ n p q. ⊎_elim
@@ -53,17 +53,17 @@ listed_push pair also next ids now id b h up e f = record {
   listed = λ k. ⊎_elim
       (λ (same : next ≡ k.1).
       let none : ids k ≡ None = h.listed k ∙ ap (listed k.0) (h.fresh k.1 (omega arith)) in
-      f k ∙ ap (λ (w : Bool). cond (stands_in b k.0 && w) (Some id) (ids k)) (eq-eqb next k.1 same) ∙ listed_if (stands_in b k.0) id (ids k) none
+      f k ∙ ap (λ (w : Bool). cond (takes b k.0 && w) (Some id) (ids k)) (eq-eqb next k.1 same) ∙ listed_if (takes b k.0) id (ids k) none
       ∙ sym (ap (listed k.0) (e k.1 ∙ at_number next k.1 (Some (id, b)) (pair k.1) same)))
       (λ (other : next ≢ k.1).
-      f k ∙ ap (λ (w : Bool). cond (stands_in b k.0 && w) (Some id) (ids k)) (ne_eqb next k.1 other) ∙ not_here (stands_in b k.0) (Some id) (ids k) ∙ h.listed k
+      f k ∙ ap (λ (w : Bool). cond (takes b k.0 && w) (Some id) (ids k)) (ne_eqb next k.1 other) ∙ not_here (takes b k.0) (Some id) (ids k) ∙ h.listed k
       ∙ sym (ap (listed k.0) (e k.1 ∙ at_other next k.1 (Some (id, b)) (pair k.1) other)))
       (cases_eq next k.1);
 }
 
 -- a pair goes
 pub listed_take : (pair also : ℕ → Option Placed) (next m : ℕ) (ids now : Key → Option Rid) (id : Rid) (b : Bounds) → AreListed pair next ids → pair m ≡ Some (id, b) → ((t : ℕ) → also t ≡ cond (nat_eq m t) None (pair t))
-    → ((k : Key) → now k ≡ cond (stands_in b k.0 && nat_eq m k.1) None (ids k)) → AreListed also next now
+    → ((k : Key) → now k ≡ cond (takes b k.0 && nat_eq m k.1) None (ids k)) → AreListed also next now
 listed_take pair also next m ids now id b h here e f = record {
   fresh = λ n le. ⊎_elim
       (λ (same : m ≡ n). e n ∙ at_number m n None (pair n) same)
@@ -75,11 +75,11 @@ listed_take pair also next m ids now id b h here e f = record {
       (cases_eq m n);
   listed = λ k. ⊎_elim
       (λ (same : m ≡ k.1).
-      let was : ids k ≡ (if stands_in b k.0 then Some id else None) = h.listed k ∙ ap (listed k.0) (ap pair (sym same) ∙ here) in
-      f k ∙ ap (λ (w : Bool). cond (stands_in b k.0 && w) None (ids k)) (eq-eqb m k.1 same) ∙ unlisted_if (stands_in b k.0) id (ids k) was
+      let was : ids k ≡ (if takes b k.0 then Some id else None) = h.listed k ∙ ap (listed k.0) (ap pair (sym same) ∙ here) in
+      f k ∙ ap (λ (w : Bool). cond (takes b k.0 && w) None (ids k)) (eq-eqb m k.1 same) ∙ unlisted_if (takes b k.0) id (ids k) was
       ∙ sym (ap (listed k.0) (e k.1 ∙ at_number m k.1 None (pair k.1) same)))
       (λ (other : m ≢ k.1).
-      f k ∙ ap (λ (w : Bool). cond (stands_in b k.0 && w) None (ids k)) (ne_eqb m k.1 other) ∙ not_here (stands_in b k.0) None (ids k) ∙ h.listed k
+      f k ∙ ap (λ (w : Bool). cond (takes b k.0 && w) None (ids k)) (ne_eqb m k.1 other) ∙ not_here (takes b k.0) None (ids k) ∙ h.listed k
       ∙ sym (ap (listed k.0) (e k.1 ∙ at_other m k.1 None (pair k.1) other)))
       (cases_eq m k.1);
 }
@@ -91,12 +91,12 @@ listed_same pair also next ids now h e f = record {
   listed = λ k. f k ∙ h.listed k ∙ sym (ap (listed k.0) (e k.1));
 }
 
-listed_of : (stand : Stand) (o : Option Placed) (f : Rid) (claim : Bool) → listed stand o ≡ Some f → ((p : Placed) → o ≡ Some p → stands_in p.1 stand ≡ true → p.0 ≡ f → claim ≡ true) → claim ≡ true
-listed_of stand None f claim e h = cc
-listed_of stand (Some p) f claim e h = ⊎_elim
-    (λ (in' : stands_in p.1 stand ≡ true). h p refl in' (same_Some p.0 f (rw in' at e)))
-    (λ (out : stands_in p.1 stand ≡ false). let none : None ≡ Some f = rw out at e in cc)
-    (cases_Bool (stands_in p.1 stand))
+listed_of : (place : Place) (o : Option Placed) (f : Rid) (claim : Bool) → listed place o ≡ Some f → ((p : Placed) → o ≡ Some p → takes p.1 place ≡ true → p.0 ≡ f → claim ≡ true) → claim ≡ true
+listed_of place None f claim e h = cc
+listed_of place (Some p) f claim e h = ⊎_elim
+    (λ (in' : takes p.1 place ≡ true). h p refl in' (same_Some p.0 f (rw in' at e)))
+    (λ (out : takes p.1 place ≡ false). let none : None ≡ Some f = rw out at e in cc)
+    (cases_Bool (takes p.1 place))
 
 -- what is found where a box asks is what is near it
 pub found_near : (asked : Bounds) (pair : ℕ → Option Placed) (next : ℕ) (ids : Key → Option Rid) (xs : List Rid) → AreListed pair next ids → IsUpright asked → is_huge asked ≡ false → Finds ids (λ k. is_asked asked k.0) xs → IsDistinct is_same xs → AreNear asked (added next pair) xs
@@ -110,39 +110,39 @@ found_near asked pair next ids xs h up small found once = record {
       (cases_lt k.1 next))))
       (λ e. any_added (puts_near asked id) next pair (is_among id xs) (λ m p low here t.
       let near = and_parts (is_near asked p.1) (is_same p.0 id) t in
-      near_asked asked p.1 up (h.upright m p here) small near.0 (is_among id xs) (λ stand a in'.
-      let at : ids (stand, m) ≡ Some p.0 = h.listed (stand, m) ∙ ap (listed stand) here ∙ ap (λ (w : Bool). if w then Some p.0 else None) in' in
-      subst (λ (x : Rid). is_among x xs ≡ true) (same_id p.0 id near.1) (found.each (stand, m) p.0 a at))) e);
+      near_asked asked p.1 up (h.upright m p here) small near.0 (is_among id xs) (λ place a in'.
+      let at : ids (place, m) ≡ Some p.0 = h.listed (place, m) ∙ ap (listed place) here ∙ ap (λ (w : Bool). if w then Some p.0 else None) in' in
+      subst (λ (x : Rid). is_among x xs ≡ true) (same_id p.0 id near.1) (found.each (place, m) p.0 a at))) e);
   once = once;
 }
 
--- a pair that is looked for stands at the first stand of its box
-pub stands_there : (pair : ℕ → Option Placed) (link : Key → Option Link) (id : Rid) (b : Bounds) (stand : Stand) (n : ℕ) → ((k : Key) → option_map (λ l. l.id) (link k) ≡ listed k.0 (pair k.1)) → IsUpright b → 0 < places b → stand ≡ stand_at b 0
-    → pair n ≡ Some (id, b) → is_some (link (stand, n)) ≡ true
-stands_there pair link id b stand n h up some at here =
-    let first : stands_in b stand ≡ true = sym (all_stands b up stand) ∙ first_of (places b) (stand_at b) stand 0 some (sym at) in
-    linked (link (stand, n)) (h (stand, n) ∙ ap (listed stand) here ∙ ap (λ (w : Bool). if w then Some id else None) first)
+-- a pair that is looked for is in the list of the first place of its box
+pub is_listed_first : (pair : ℕ → Option Placed) (link : Key → Option Link) (id : Rid) (b : Bounds) (place : Place) (n : ℕ) → ((k : Key) → option_map (λ l. l.id) (link k) ≡ listed k.0 (pair k.1)) → IsUpright b → 0 < places b → place ≡ place_at b 0
+    → pair n ≡ Some (id, b) → is_some (link (place, n)) ≡ true
+is_listed_first pair link id b place n h up some at here =
+    let first : takes b place ≡ true = sym (all_places b up place) ∙ first_of (places b) (place_at b) place 0 some (sym at) in
+    linked (link (place, n)) (h (place, n) ∙ ap (listed place) here ∙ ap (λ (w : Bool). if w then Some id else None) first)
   where
     linked : (o : Option Link) → option_map (λ l. l.id) o ≡ Some id → is_some o ≡ true
     linked None e = cc
     linked (Some l) e = refl
 
 -- a pair that has a number of a list has the feature that is listed
-pub known_is : (pair : ℕ → Option Placed) (link : Key → Option Link) (stand : Stand) (n : ℕ) (l : Link) → ((k : Key) → option_map (λ l. l.id) (link k) ≡ listed k.0 (pair k.1)) → link (stand, n) ≡ Some l → (p : Placed) → pair n ≡ Some p → p.0 ≡ l.id
-known_is pair link stand n l h at p here =
-    let e : listed stand (Some p) ≡ Some l.id = ap (listed stand) (sym here) ∙ sym (h (stand, n)) ∙ ap (option_map (λ x. x.id)) at in
+pub known_is : (pair : ℕ → Option Placed) (link : Key → Option Link) (place : Place) (n : ℕ) (l : Link) → ((k : Key) → option_map (λ l. l.id) (link k) ≡ listed k.0 (pair k.1)) → link (place, n) ≡ Some l → (p : Placed) → pair n ≡ Some p → p.0 ≡ l.id
+known_is pair link place n l h at p here =
+    let e : listed place (Some p) ≡ Some l.id = ap (listed place) (sym here) ∙ sym (h (place, n)) ∙ ap (option_map (λ x. x.id)) at in
     ⊎_elim
-    (λ (in' : stands_in p.1 stand ≡ true). same_Some p.0 l.id (rw in' at e))
-    (λ (out : stands_in p.1 stand ≡ false). absurd (let none : None ≡ Some l.id = rw out at e in cc))
-    (cases_Bool (stands_in p.1 stand))
+    (λ (in' : takes p.1 place ≡ true). same_Some p.0 l.id (rw in' at e))
+    (λ (out : takes p.1 place ≡ false). absurd (let none : None ≡ Some l.id = rw out at e in cc))
+    (cases_Bool (takes p.1 place))
 
 -- the pair is not among the first of the list
-pub without_start : (link : Key → Option Link) (stand : Stand) (first at : Option ℕ) (n : ℕ) → IsNext (λ t. is_some (link (stand, t))) None first → at ≡ first → is_some (link (stand, n)) ≡ true → reaches at n ≡ false → ⊥
-without_start link stand first at n h e here out = false≢true (sym out ∙ ap (λ (x : Option ℕ). reaches x n) e ∙ h.past n here refl)
+pub without_start : (link : Key → Option Link) (place : Place) (first at : Option ℕ) (n : ℕ) → IsNext (λ t. is_some (link (place, t))) None first → at ≡ first → is_some (link (place, n)) ≡ true → reaches at n ≡ false → ⊥
+without_start link place first at n h e here out = false≢true (sym out ∙ ap (λ (x : Option ℕ). reaches x n) e ∙ h.past n here refl)
 
 -- nor is it one that the list has gone past
-pub without_next : (link : Key → Option Link) (stand : Stand) (at older : Option ℕ) (m n : ℕ) → IsNext (λ t. is_some (link (stand, t))) (Some m) older → at ≡ Some m → is_some (link (stand, n)) ≡ true → reaches older n ≡ false → m ≢ n → reaches at n ≡ false
-without_next link stand at older m n h e here out other = ⊎_elim
+pub without_next : (link : Key → Option Link) (place : Place) (at older : Option ℕ) (m n : ℕ) → IsNext (λ t. is_some (link (place, t))) (Some m) older → at ≡ Some m → is_some (link (place, n)) ≡ true → reaches older n ≡ false → m ≢ n → reaches at n ≡ false
+without_next link place at older m n h e here out other = ⊎_elim
     (λ (less : n < m). absurd (false≢true (sym out ∙ h.past n here (below n m less))))
     (λ (more : m ≤ n). ap (λ (x : Option ℕ). reaches x n) e ∙ beyond m n (omega arith))
     (cases_lt n m)

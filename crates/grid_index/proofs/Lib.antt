@@ -6,7 +6,7 @@ pub mod Finding
 pub mod Marked
 pub mod Meeting
 pub mod Covered
-pub mod Standing
+pub mod OneByOne
 pub mod Keeping
 pub mod Scanned
 pub mod Same

@@ -1,4 +1,4 @@
--- How a grid lists its pairs: for each cell, and for the wide list, the numbers of the pairs that stand there, from the greatest down.
+-- How a grid lists its pairs: for each cell, and for the wide list, the numbers of the pairs that place there, from the greatest down.
 use Rattle.std.specs.Prelude.{◌≡◌, ℕ, zero, suc, ℤ, Bool, true, false, ◌&&◌, ◌||◌, not, if◌then◌else◌, nat_eq, nat_lt, nat_le, min, Option, Some, None, is_some}
 use Rattle.std.specs.Ordering.{int_eq}
 use Rattle.std.specs.Option.{option_eq, option_map, option_and_then}
@@ -8,54 +8,54 @@ use Rattle.feature_values.specs.declared.feature.Rid.{Rid}
 use Rattle.grid_index.specs.declared.lists.Link.{Link}
 use Rattle.grid_index.specs.Cells.{is_wide, covers, cell_at}
 
--- where a pair stands: in a cell, which has two numbers, or in none, which is the wide list
-abbrev pub Stand : Type 0
-Stand = Option (ℤ × ℤ)
+-- a place that a pair takes: in a cell, which has two numbers, or in none, which is the wide list
+abbrev pub Place : Type 0
+Place = Option (ℤ × ℤ)
 
 abbrev pub same_cell : ℤ × ℤ → ℤ × ℤ → Bool
 same_cell a b = int_eq a.0 b.0 && int_eq a.1 b.1
 
-abbrev pub same_stand : Stand → Stand → Bool
-same_stand a b = option_eq same_cell a b
+abbrev pub same_place : Place → Place → Bool
+same_place a b = option_eq same_cell a b
 
--- a box has a pair of it stand here
-abbrev pub stands_in : Bounds → Stand → Bool
-stands_in b None = is_wide b
-stands_in b (Some cell) = not (is_wide b) && covers b cell
+-- a box has a pair of it place here
+abbrev pub takes : Bounds → Place → Bool
+takes b None = is_wide b
+takes b (Some cell) = not (is_wide b) && covers b cell
 
 -- where pairs are asked for that are near a box
-abbrev pub is_asked : Bounds → Stand → Bool
+abbrev pub is_asked : Bounds → Place → Bool
 is_asked b None = true
 is_asked b (Some cell) = covers b cell
 
--- the stands of a box by number
-abbrev pub stand_at : Bounds → ℕ → Stand
-stand_at b i = if is_wide b then None else Some (cell_at b i)
+-- the places that a box takes, by number
+abbrev pub place_at : Bounds → ℕ → Place
+place_at b i = if is_wide b then None else Some (cell_at b i)
 
--- a stand is among the first n of these
-abbrev pub is_among_first : ℕ → (ℕ → Stand) → Stand → Bool
-is_among_first zero stands stand = false
-is_among_first (suc n) stands stand = is_among_first n stands stand || same_stand (stands n) stand
+-- a place is among the first n of these
+abbrev pub is_among_first : ℕ → (ℕ → Place) → Place → Bool
+is_among_first zero at place = false
+is_among_first (suc n) at place = is_among_first n at place || same_place (at n) place
 
 -- a number in a list
 abbrev pub Key : Type 0
-Key = Stand × ℕ
+Key = Place × ℕ
 
 abbrev pub same_key : Key → Key → Bool
-same_key a b = same_stand a.0 b.0 && nat_eq a.1 b.1
+same_key a b = same_place a.0 b.0 && nat_eq a.1 b.1
 
 module _ {S : Type 0} (links : HashMap Key Link S) where
-  -- the feature of the pair of a number, where it stands in a list
+  -- the feature of the pair of a number, where it has that place
   abbrev pub id_at : Key → Option Rid
   id_at key = option_map (λ link. link.id) (get same_key links key)
 
-  -- the pair of a number stands in a list
-  abbrev pub has : Stand → ℕ → Bool
-  has stand number = is_some (get same_key links (stand, number))
+  -- the pair of a number has a place
+  abbrev pub has : Place → ℕ → Bool
+  has place number = is_some (get same_key links (place, number))
 
   -- the number that a list has after another
-  abbrev pub older_at : Stand → ℕ → Option ℕ
-  older_at stand number = option_and_then (λ link. link.older) (get same_key links (stand, number))
+  abbrev pub older_at : Place → ℕ → Option ℕ
+  older_at place number = option_and_then (λ link. link.older) (get same_key links (place, number))
 
 -- a pair of a list that leads to another after it
 abbrev pub with_older : Option ℕ → Link → Link
@@ -82,12 +82,12 @@ pub record IsChain (has : ℕ → Bool) (first : Option ℕ) (older : ℕ → Op
   pub step : (s : ℕ) → has s ≡ true → IsNext has (Some s) (older s)
 
 -- each list leads through all its numbers
-abbrev pub AreLinkedBy : (Stand → Option ℕ) → (Key → Option Link) → Type 0
-AreLinkedBy first link = (stand : Stand) → IsChain (λ n. is_some (link (stand, n))) (first stand) (λ n. option_and_then (λ l. l.older) (link (stand, n)))
+abbrev pub AreLinkedBy : (Place → Option ℕ) → (Key → Option Link) → Type 0
+AreLinkedBy first link = (place : Place) → IsChain (λ n. is_some (link (place, n))) (first place) (λ n. option_and_then (λ l. l.older) (link (place, n)))
 
-abbrev pub AreLinked : {S T : Type 0} → HashMap Stand ℕ S → HashMap Key Link T → Type 0
-AreLinked newest links = AreLinkedBy (get same_stand newest) (get same_key links)
+abbrev pub AreLinked : {S T : Type 0} → HashMap Place ℕ S → HashMap Key Link T → Type 0
+AreLinked newest links = AreLinkedBy (get same_place newest) (get same_key links)
 
 -- for how many more pairs lists have room, each in one list
-abbrev pub list_room : {S T : Type 0} → HashMap Stand ℕ S → HashMap Key Link T → ℕ
+abbrev pub list_room : {S T : Type 0} → HashMap Place ℕ S → HashMap Key Link T → ℕ
 list_room newest links = min (spare newest) (spare links)

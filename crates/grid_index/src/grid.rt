@@ -8,8 +8,8 @@ ghost use Rattle.grid_index.specs.Room.{places, IsSpare};
 
 use crate::cells;
 use crate::lists::Lists;
+use crate::places::{put_in, take_out};
 use crate::search::{among_all, in_cells, is_for_all, number_of};
-use crate::stands::{put_in, take_out};
 use feature_values::Rid;
 use geom_core::Box2;
 use std::alloc::Global;

@@ -6,8 +6,8 @@ mod found;
 mod grid;
 mod laws;
 mod lists;
+mod places;
 mod search;
-mod stands;
 
 pub use grid::Grid;
 pub use laws::{spare_alone, spare_without};

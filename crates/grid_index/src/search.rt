@@ -12,7 +12,7 @@ ghost use Rattle.grid_index.specs.Lists.{id_at, is_asked, AreLinked};
 use crate::cells;
 use crate::found::Found;
 use crate::lists::Lists;
-use crate::stands::{collect_near, stand_at};
+use crate::places::{collect_near, place_at};
 use feature_values::Rid;
 use geom_core::Box2;
 use std::alloc::Global;
@@ -62,10 +62,10 @@ pub fn number_of(
     ensures none { IfNone result ((n : ℕ) → get nat_eq pairs.now n ≢ Some (id, area)) }
 {
     let _places = cells::places(&area);
-    let stand = stand_at(&area, 0);
-    let mut at = lists.first(stand);
+    let place = place_at(&area, 0);
+    let mut at = lists.first(place);
     while let Some(number) = at {
-        let Some(link) = lists.link(stand, number) else {
+        let Some(link) = lists.link(place, number) else {
             unreachable!()
         };
         if is_number_of(pairs, number, link.id, id, area) {

@@ -1,23 +1,23 @@
-//! Where a pair stands, and where the pairs that are near a box are asked for.
+//! The places that a pair takes, and those where pairs near a box are asked for.
 
 ghost use Rattle.std.specs.Prelude.{◌≡◌, ℕ, ◌+◌, ◌<◌, ◌≤◌, ◌&&◌, cond, true, false, Some, None, nat_eq, OnOk, IfOk};
 ghost use Rattle.grid_index.specs.Cells.{is_huge};
 ghost use Rattle.grid_index.specs.Room.{places};
 ghost use Rattle.grid_index.specs.Found.{AreMarked, Finds};
-ghost use Rattle.grid_index.specs.Lists.{id_at, has, stand_at, stands_in, is_asked, AreLinked, list_room};
+ghost use Rattle.grid_index.specs.Lists.{id_at, has, place_at, takes, is_asked, AreLinked, list_room};
 
 use crate::cells;
 use crate::found::Found;
-use crate::lists::{Lists, Stand};
+use crate::lists::{Lists, Place};
 use feature_values::Rid;
 use geom_core::Box2;
 use wfs_ends::Mem;
 
-// The stand of a number among those that a box takes.
+// The place of a number among those that a box takes.
 #[tactic(auto, unfolding(crate::specs::Room::places))]
-pub fn stand_at(area: &Box2, i: usize) -> Stand
+pub fn place_at(area: &Box2, i: usize) -> Place
     requires { i < places area.now }
-    ensures { result ≡ stand_at area.now i }
+    ensures { result ≡ place_at area.now i }
 {
     if cells::is_wide(area) {
         None
@@ -26,29 +26,29 @@ pub fn stand_at(area: &Box2, i: usize) -> Stand
     }
 }
 
-// Puts the newest pair of all into the lists of its stands.
+// Puts the newest pair of all into the lists of its places.
 pub fn put_in(lists: &mut Lists, area: &Box2, number: u64, id: Rid)
     requires linked { AreLinked lists.old.newest lists.old.links }
     requires newest { (c : _) (t : ℕ) → has lists.old.links c t ≡ true → t < number }
     requires room { places area.now ≤ list_room lists.old.newest lists.old.links }
-    ensures ids { (k : _) → id_at lists.new.links k ≡ cond (stands_in area.now k.0 && nat_eq number k.1) (Some id) (id_at lists.old.links k) }
+    ensures ids { (k : _) → id_at lists.new.links k ≡ cond (takes area.now k.0 && nat_eq number k.1) (Some id) (id_at lists.old.links k) }
     ensures linked { AreLinked lists.new.newest lists.new.links }
     ensures room { list_room lists.old.newest lists.old.links ≤ list_room lists.new.newest lists.new.links + places area.now }
 {
     for i in 0..cells::places(area) {
-        lists.push(stand_at(area, i), number, id);
+        lists.push(place_at(area, i), number, id);
     }
 }
 
-// Takes a pair out of the lists of its stands.
+// Takes a pair out of the lists of its places.
 pub fn take_out(lists: &mut Lists, area: &Box2, number: u64)
     requires { AreLinked lists.old.newest lists.old.links }
-    ensures ids { (k : _) → id_at lists.new.links k ≡ cond (stands_in area.now k.0 && nat_eq number k.1) None (id_at lists.old.links k) }
+    ensures ids { (k : _) → id_at lists.new.links k ≡ cond (takes area.now k.0 && nat_eq number k.1) None (id_at lists.old.links k) }
     ensures linked { AreLinked lists.new.newest lists.new.links }
     ensures room { list_room lists.old.newest lists.old.links ≤ list_room lists.new.newest lists.new.links }
 {
     for i in 0..cells::places(area) {
-        lists.take(stand_at(area, i), number);
+        lists.take(place_at(area, i), number);
     }
 }
 
