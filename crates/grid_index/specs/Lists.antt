@@ -1,11 +1,12 @@
 -- How a grid lists its pairs: for each cell, and for the wide list, the numbers of the pairs that place there, from the greatest down.
-use Rattle.std.specs.Prelude.{◌≡◌, ℕ, zero, suc, ℤ, Bool, true, false, ◌&&◌, ◌||◌, not, if◌then◌else◌, nat_eq, nat_lt, nat_le, min, Option, Some, None, is_some}
+use Rattle.std.specs.Prelude.{◌≡◌, ℕ, zero, suc, ℤ, Bool, true, false, ◌&&◌, ◌||◌, not, cond, if◌then◌else◌, nat_eq, nat_lt, nat_le, min, Option, Some, None, is_some}
 use Rattle.std.specs.Ordering.{int_eq}
 use Rattle.std.specs.Option.{option_eq, option_map, option_and_then}
 use Rattle.std.specs.HashMap.{HashMap, get, spare}
 use Rattle.geom_core.specs.Plane.{Bounds}
 use Rattle.feature_values.specs.declared.feature.Rid.{Rid}
 use Rattle.grid_index.specs.declared.lists.Link.{Link}
+use Rattle.grid_index.specs.declared.lists.Lists.{Lists}
 use Rattle.grid_index.specs.Cells.{is_wide, covers, cell_at}
 
 -- a place that a pair takes: in a cell, which has two numbers, or in none, which is the wide list
@@ -18,12 +19,12 @@ same_cell a b = int_eq a.0 b.0 && int_eq a.1 b.1
 abbrev pub same_place : Place → Place → Bool
 same_place a b = option_eq same_cell a b
 
--- a box has a pair of it place here
+-- a pair of a box takes this place
 abbrev pub takes : Bounds → Place → Bool
 takes b None = is_wide b
 takes b (Some cell) = not (is_wide b) && covers b cell
 
--- where pairs are asked for that are near a box
+-- a place where pairs near a box are asked for
 abbrev pub is_asked : Bounds → Place → Bool
 is_asked b None = true
 is_asked b (Some cell) = covers b cell
@@ -44,18 +45,17 @@ Key = Place × ℕ
 abbrev pub same_key : Key → Key → Bool
 same_key a b = same_place a.0 b.0 && nat_eq a.1 b.1
 
-module _ {S : Type 0} (links : HashMap Key Link S) where
-  -- the feature of the pair of a number, where it has that place
-  abbrev pub id_at : Key → Option Rid
-  id_at key = option_map (λ link. link.id) (get same_key links key)
+-- the feature of the pair of a number, where it takes a place
+abbrev pub id_at : Lists → Key → Option Rid
+id_at lists key = option_map (λ link. link.id) (get same_key lists.links key)
 
-  -- the pair of a number has a place
-  abbrev pub has : Place → ℕ → Bool
-  has place number = is_some (get same_key links (place, number))
+-- the pair of a number takes a place
+abbrev pub has : Lists → Place → ℕ → Bool
+has lists place number = is_some (get same_key lists.links (place, number))
 
-  -- the number that a list has after another
-  abbrev pub older_at : Place → ℕ → Option ℕ
-  older_at place number = option_and_then (λ link. link.older) (get same_key links (place, number))
+-- the number that a list has after another
+abbrev pub older_at : Lists → Place → ℕ → Option ℕ
+older_at lists place number = option_and_then (λ link. link.older) (get same_key lists.links (place, number))
 
 -- a pair of a list that leads to another after it
 abbrev pub with_older : Option ℕ → Link → Link
@@ -85,9 +85,21 @@ pub record IsChain (has : ℕ → Bool) (first : Option ℕ) (older : ℕ → Op
 abbrev pub AreLinkedBy : (Place → Option ℕ) → (Key → Option Link) → Type 0
 AreLinkedBy first link = (place : Place) → IsChain (λ n. is_some (link (place, n))) (first place) (λ n. option_and_then (λ l. l.older) (link (place, n)))
 
-abbrev pub AreLinked : {S T : Type 0} → HashMap Place ℕ S → HashMap Key Link T → Type 0
-AreLinked newest links = AreLinkedBy (get same_place newest) (get same_key links)
+abbrev pub AreLinked : Lists → Type 0
+AreLinked lists = AreLinkedBy (get same_place lists.newest) (get same_key lists.links)
 
 -- for how many more pairs lists have room, each in one list
-abbrev pub list_room : {S T : Type 0} → HashMap Place ℕ S → HashMap Key Link T → ℕ
-list_room newest links = min (spare newest) (spare links)
+abbrev pub list_room : Lists → ℕ
+list_room lists = min (spare lists.newest) (spare lists.links)
+
+-- one key gets a value, or loses it, and each other keeps its own
+abbrev pub IsSet : {K X : Type 0} → (K → K → Bool) → (K → Option X) → K → Option X → (K → Option X) → Type 0
+IsSet {K} same old key value new = (k : K) → new k ≡ cond (same key k) value (old k)
+
+-- the pair of a key leads to another, and each other pair stays
+abbrev pub IsLed : (Key → Option Link) → Key → Option ℕ → (Key → Option Link) → Type 0
+IsLed old key older new = (k : Key) → new k ≡ cond (same_key key k) (option_map (with_older older) (old k)) (old k)
+
+-- the number of a pair gets a feature at each place of a box, or loses it, and all else stays
+abbrev pub IsSetAtEach : Bounds → (Key → Option Rid) → ℕ → Option Rid → (Key → Option Rid) → Type 0
+IsSetAtEach area old number value new = (k : Key) → new k ≡ cond (takes area k.0 && nat_eq number k.1) value (old k)

@@ -1,8 +1,9 @@
 //! The grid: pairs of a feature and a box that it has, and what is near a box.
 
-ghost use Rattle.std.specs.Prelude.{◌≡◌, ℕ, ◌+◌, ◌≤◌, ◌++◌, ◌∷◌, [], All, IfOk, OnOk, cond, Some, nat_eq};
+ghost use Rattle.std.specs.Prelude.{◌≡◌, ℕ, ◌+◌, ◌≤◌, ◌++◌, ◌∷◌, [], All, IfOk, OnOk, Some, nat_eq};
 ghost use Rattle.std.specs.List.{sum_by};
 ghost use Rattle.std.specs.HashMap.{get, spare};
+ghost use Rattle.grid_index.specs.Lists.{IsSet};
 ghost use Rattle.grid_index.specs.Near.{AreNear, IsMet, IsRemoved};
 ghost use Rattle.grid_index.specs.Room.{places, IsSpare};
 
@@ -38,15 +39,16 @@ impl Model for Grid {
 
     ghost use Rattle.grid_index.specs.Kept.{added, grid_room, AreKept};
 
-    ghost view = { λ g. record { pairs = added g.next (get nat_eq g.pairs); room = grid_room g.pairs g.next g.lists.newest g.lists.links } };
+    ghost view = { λ g. record { pairs = added g.next (get nat_eq g.pairs); room = grid_room g.pairs g.next g.lists } };
 
-    ghost invariant = { λ g. AreKept g.pairs g.next g.lists.newest g.lists.links };
+    ghost invariant = { λ g. AreKept g.pairs g.next g.lists };
 }
 
 // Keeps a pair by its number.
 fn keep(pairs: &mut HashMap<u64, (Rid, Box2)>, number: u64, id: Rid, area: Box2)
     requires { 1 ≤ spare pairs.old }
-    ensures pairs { (n : ℕ) → get nat_eq pairs.new n ≡ cond (nat_eq number n) (Some (id, area)) (get nat_eq pairs.old n) }
+    ensures pairs { IsSet nat_eq
+        (get nat_eq pairs.old) number (Some (id, area)) (get nat_eq pairs.new) }
     ensures room { spare pairs.old ≤ spare pairs.new + 1 }
 {
     match pairs.insert(number, (id, area)) {

@@ -1,10 +1,9 @@
 //! The pairs that place in each cell, and on the wide list, from the newest to the oldest.
 
-ghost use Rattle.std.specs.Prelude.{◌≡◌, ℕ, ◌+◌, ◌<◌, ◌≤◌, ◌||◌, cond, true, Some, None, is_some, OnOk, IfSome, IfNone};
-ghost use Rattle.std.specs.Option.{option_map};
+ghost use Rattle.std.specs.Prelude.{◌≡◌, ℕ, ◌+◌, ◌<◌, ◌≤◌, true, Some, None, is_some, OnOk, IfSome, IfNone};
 ghost use Rattle.std.specs.HashMap.{get, spare};
-ghost use Rattle.grid_index.specs.Found.{AreMarked, Finds};
-ghost use Rattle.grid_index.specs.Lists.{same_place, same_key, id_at, has, older_at, with_older, AreLinked, list_room};
+ghost use Rattle.grid_index.specs.Found.{AreMarked, FindsAlso};
+ghost use Rattle.grid_index.specs.Lists.{same_place, same_key, id_at, has, older_at, AreLinked, list_room, IsSet, IsLed};
 
 use crate::found::Found;
 use feature_values::Rid;
@@ -31,8 +30,8 @@ pub struct Lists {
 
 // Leads a list on to another pair after one of its pairs.
 fn set_older(links: &mut HashMap<(Place, u64), Link>, place: Place, number: u64, older: Option<u64>)
-    requires { has links.old place number ≡ true }
-    ensures links { (k : _) → get same_key links.new k ≡ cond (same_key (place, number) k) (option_map (with_older older) (get same_key links.old k)) (get same_key links.old k) }
+    requires { is_some (get same_key links.old (place, number)) ≡ true }
+    ensures links { IsLed (get same_key links.old) (place, number) older (get same_key links.new) }
     ensures room { spare links.new ≡ spare links.old }
 {
     if let Some(link) = links.get_mut(&(place, number)) {
@@ -43,7 +42,8 @@ fn set_older(links: &mut HashMap<(Place, u64), Link>, place: Place, number: u64,
 // Lets a list that has pairs begin with another pair, or with none.
 fn set_newest(newest: &mut HashMap<Place, u64>, place: Place, first: Option<u64>)
     requires { is_some (get same_place newest.old place) ≡ true }
-    ensures newest { (d : _) → get same_place newest.new d ≡ cond (same_place place d) first (get same_place newest.old d) }
+    ensures newest { IsSet same_place
+        (get same_place newest.old) place first (get same_place newest.new) }
     ensures room { spare newest.old ≤ spare newest.new }
 {
     match first {
@@ -60,8 +60,8 @@ fn set_newest(newest: &mut HashMap<Place, u64>, place: Place, first: Option<u64>
 
 impl Lists {
     pub fn new(alloc: Global) -> Lists
-        ensures none { (k : _) → id_at result.links k ≡ None }
-        ensures linked { AreLinked result.newest result.links }
+        ensures none { (k : _) → id_at result k ≡ None }
+        ensures linked { AreLinked result }
     {
         Lists {
             newest: HashMap::new(alloc),
@@ -71,11 +71,11 @@ impl Lists {
 
     // Makes room for more pairs, each in one list.
     pub fn reserve(&mut self, more: usize) -> Mem<()>
-        requires { AreLinked self.old.newest self.old.links }
-        ensures ids { (k : _) → id_at self.new.links k ≡ id_at self.old.links k }
-        ensures linked { AreLinked self.new.newest self.new.links }
-        ensures room { OnOk result (more ≤ list_room self.new.newest self.new.links) }
-        ensures kept { list_room self.old.newest self.old.links ≤ list_room self.new.newest self.new.links }
+        requires { AreLinked self.old }
+        ensures ids { (k : _) → id_at self.new k ≡ id_at self.old k }
+        ensures linked { AreLinked self.new }
+        ensures room { OnOk result (more ≤ list_room self.new) }
+        ensures kept { list_room self.old ≤ list_room self.new }
     {
         self.newest.reserve(more)?;
         Ok(self.links.reserve(more)?)
@@ -83,12 +83,12 @@ impl Lists {
 
     // Puts the newest pair of all into a list.
     pub fn push(&mut self, place: Place, number: u64, id: Rid)
-        requires linked { AreLinked self.old.newest self.old.links }
-        requires newest { (t : ℕ) → has self.old.links place t ≡ true → t < number }
-        requires room { 1 ≤ list_room self.old.newest self.old.links }
-        ensures ids { (k : _) → id_at self.new.links k ≡ cond (same_key (place, number) k) (Some id) (id_at self.old.links k) }
-        ensures linked { AreLinked self.new.newest self.new.links }
-        ensures room { list_room self.old.newest self.old.links ≤ list_room self.new.newest self.new.links + 1 }
+        requires linked { AreLinked self.old }
+        requires newest { (t : ℕ) → has self.old place t ≡ true → t < number }
+        requires room { 1 ≤ list_room self.old }
+        ensures ids { IsSet same_key (id_at self.old) (place, number) (Some id) (id_at self.new) }
+        ensures linked { AreLinked self.new }
+        ensures room { list_room self.old ≤ list_room self.new + 1 }
     {
         let older = self.newest.get(&place).copied();
         match self.links.insert((place, number), Link { id, older }) {
@@ -110,7 +110,7 @@ impl Lists {
 
     // The number of the pair that a list has after another.
     fn older(&self, place: Place, number: u64) -> Option<u64>
-        ensures { result ≡ older_at self.now.links place number }
+        ensures { result ≡ older_at self.now place number }
     {
         match self.link(place, number) {
             Some(link) => link.older,
@@ -127,10 +127,11 @@ impl Lists {
 
     // The number of the pair that a list has before another.
     fn newer(&self, place: Place, number: u64) -> Option<u64>
-        requires linked { AreLinked self.now.newest self.now.links }
-        requires has { has self.now.links place number ≡ true }
+        requires linked { AreLinked self.now }
+        requires has { has self.now place number ≡ true }
         ensures first { IfNone result (get same_place self.now.newest place ≡ Some number) }
-        ensures next { IfSome result (λ n. (has self.now.links place n ≡ true) × (older_at self.now.links place n ≡ Some number)) }
+        ensures has { IfSome result (λ n. has self.now place n ≡ true) }
+        ensures next { IfSome result (λ n. older_at self.now place n ≡ Some number) }
     {
         let mut newer = None;
         let mut at = self.first(place);
@@ -146,10 +147,10 @@ impl Lists {
 
     // Takes a pair out of a list, where it is there.
     pub fn take(&mut self, place: Place, number: u64)
-        requires { AreLinked self.old.newest self.old.links }
-        ensures ids { (k : _) → id_at self.new.links k ≡ cond (same_key (place, number) k) None (id_at self.old.links k) }
-        ensures linked { AreLinked self.new.newest self.new.links }
-        ensures room { list_room self.old.newest self.old.links ≤ list_room self.new.newest self.new.links }
+        requires { AreLinked self.old }
+        ensures ids { IsSet same_key (id_at self.old) (place, number) None (id_at self.new) }
+        ensures linked { AreLinked self.new }
+        ensures room { list_room self.old ≤ list_room self.new }
     {
         if self.links.contains_key(&(place, number)) {
             let newer = self.newer(place, number);
@@ -164,10 +165,10 @@ impl Lists {
 
     // Finds the features of a list.
     pub fn collect(&self, place: Place, found: &mut Found) -> Mem<()>
-        requires linked { AreLinked self.now.newest self.now.links }
+        requires linked { AreLinked self.now }
         requires marked { AreMarked found.old.marks found.old.ids.items }
         ensures marked { OnOk result (AreMarked found.new.marks found.new.ids.items) }
-        ensures finds { OnOk result ((gone : _) → Finds (id_at self.now.links) gone found.old.ids.items → Finds (id_at self.now.links) (λ k. gone k || same_place place k.0) found.new.ids.items) }
+        ensures finds { OnOk result (FindsAlso (id_at self.now) place found.old found.new) }
     {
         let mut at = self.first(place);
         while let Some(number) = at {

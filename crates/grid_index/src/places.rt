@@ -1,10 +1,9 @@
 //! The places that a pair takes, and those where pairs near a box are asked for.
 
-ghost use Rattle.std.specs.Prelude.{◌≡◌, ℕ, ◌+◌, ◌<◌, ◌≤◌, ◌&&◌, cond, true, false, Some, None, nat_eq, OnOk, IfOk};
-ghost use Rattle.grid_index.specs.Cells.{is_huge};
+ghost use Rattle.std.specs.Prelude.{◌≡◌, ℕ, ◌+◌, ◌<◌, ◌≤◌, true, Some, None, OnOk};
 ghost use Rattle.grid_index.specs.Room.{places};
-ghost use Rattle.grid_index.specs.Found.{AreMarked, Finds};
-ghost use Rattle.grid_index.specs.Lists.{id_at, has, place_at, takes, is_asked, AreLinked, list_room};
+ghost use Rattle.grid_index.specs.Found.{AreMarked, FindsNone, FindsAsked};
+ghost use Rattle.grid_index.specs.Lists.{id_at, has, place_at, AreLinked, list_room, IsSetAtEach};
 
 use crate::cells;
 use crate::found::Found;
@@ -28,12 +27,12 @@ pub fn place_at(area: &Box2, i: usize) -> Place
 
 // Puts the newest pair of all into the lists of its places.
 pub fn put_in(lists: &mut Lists, area: &Box2, number: u64, id: Rid)
-    requires linked { AreLinked lists.old.newest lists.old.links }
-    requires newest { (c : _) (t : ℕ) → has lists.old.links c t ≡ true → t < number }
-    requires room { places area.now ≤ list_room lists.old.newest lists.old.links }
-    ensures ids { (k : _) → id_at lists.new.links k ≡ cond (takes area.now k.0 && nat_eq number k.1) (Some id) (id_at lists.old.links k) }
-    ensures linked { AreLinked lists.new.newest lists.new.links }
-    ensures room { list_room lists.old.newest lists.old.links ≤ list_room lists.new.newest lists.new.links + places area.now }
+    requires linked { AreLinked lists.old }
+    requires newest { (c : _) (t : ℕ) → has lists.old c t ≡ true → t < number }
+    requires room { places area.now ≤ list_room lists.old }
+    ensures ids { IsSetAtEach area.now (id_at lists.old) number (Some id) (id_at lists.new) }
+    ensures linked { AreLinked lists.new }
+    ensures room { list_room lists.old ≤ list_room lists.new + places area.now }
 {
     for i in 0..cells::places(area) {
         lists.push(place_at(area, i), number, id);
@@ -42,10 +41,10 @@ pub fn put_in(lists: &mut Lists, area: &Box2, number: u64, id: Rid)
 
 // Takes a pair out of the lists of its places.
 pub fn take_out(lists: &mut Lists, area: &Box2, number: u64)
-    requires { AreLinked lists.old.newest lists.old.links }
-    ensures ids { (k : _) → id_at lists.new.links k ≡ cond (takes area.now k.0 && nat_eq number k.1) None (id_at lists.old.links k) }
-    ensures linked { AreLinked lists.new.newest lists.new.links }
-    ensures room { list_room lists.old.newest lists.old.links ≤ list_room lists.new.newest lists.new.links }
+    requires { AreLinked lists.old }
+    ensures ids { IsSetAtEach area.now (id_at lists.old) number None (id_at lists.new) }
+    ensures linked { AreLinked lists.new }
+    ensures room { list_room lists.old ≤ list_room lists.new }
 {
     for i in 0..cells::places(area) {
         lists.take(place_at(area, i), number);
@@ -54,11 +53,11 @@ pub fn take_out(lists: &mut Lists, area: &Box2, number: u64)
 
 // Finds the features on the wide list and in the cells of a box.
 pub fn collect_near(lists: &Lists, asked: &Box2, found: &mut Found) -> Mem<()>
-    requires linked { AreLinked lists.now.newest lists.now.links }
+    requires linked { AreLinked lists.now }
     requires marked { AreMarked found.old.marks found.old.ids.items }
-    requires none { Finds (id_at lists.now.links) (λ _. false) found.old.ids.items }
+    requires none { FindsNone (id_at lists.now) found.old.ids.items }
     ensures marked { OnOk result (AreMarked found.new.marks found.new.ids.items) }
-    ensures finds { OnOk result (Finds (id_at lists.now.links) (λ k. is_asked asked.now k.0) found.new.ids.items) }
+    ensures finds { OnOk result (FindsAsked (id_at lists.now) asked.now found.new.ids.items) }
 {
     lists.collect(None, found)?;
     for i in 0..cells::cell_count(asked) {

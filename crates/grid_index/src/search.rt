@@ -4,10 +4,10 @@ ghost use Rattle.std.specs.Prelude.{◌≡◌, ℕ, ◌≤◌, ◌≢◌, true, 
 ghost use Rattle.std.specs.List.{IsDistinct};
 ghost use Rattle.std.specs.HashMap.{get};
 ghost use Rattle.grid_index.specs.Cells.{is_huge};
-ghost use Rattle.grid_index.specs.Near.{AreNear, is_same};
-ghost use Rattle.grid_index.specs.Found.{Finds};
-ghost use Rattle.grid_index.specs.Kept.{added, listed};
-ghost use Rattle.grid_index.specs.Lists.{id_at, is_asked, AreLinked};
+ghost use Rattle.grid_index.specs.Near.{is_same};
+ghost use Rattle.grid_index.specs.Found.{FindsAsked};
+ghost use Rattle.grid_index.specs.Kept.{listed, AreNearBy};
+ghost use Rattle.grid_index.specs.Lists.{id_at, AreLinked};
 
 use crate::cells;
 use crate::found::Found;
@@ -56,8 +56,8 @@ pub fn number_of(
     id: Rid,
     area: Box2,
 ) -> Option<u64>
-    requires linked { AreLinked lists.now.newest lists.now.links }
-    requires listed { (k : _) → id_at lists.now.links k ≡ listed k.0 (get nat_eq pairs.now k.1) }
+    requires linked { AreLinked lists.now }
+    requires listed { (k : _) → id_at lists.now k ≡ listed k.0 (get nat_eq pairs.now k.1) }
     ensures some { IfSome result (λ n. get nat_eq pairs.now n ≡ Some (id, area)) }
     ensures none { IfNone result ((n : ℕ) → get nat_eq pairs.now n ≢ Some (id, area)) }
 {
@@ -85,7 +85,7 @@ pub fn is_for_all(count: usize, asked: &Box2) -> bool
 
 // The features of all pairs that are near a box.
 pub fn among_all(alloc: Global, pairs: &HashMap<u64, (Rid, Box2)>, asked: &Box2) -> Mem<Vec<Rid>>
-    ensures { IfOk result (λ ids. (next : ℕ) → ((n : ℕ) → next ≤ n → get nat_eq pairs.now n ≡ None) → AreNear asked.now (added next (get nat_eq pairs.now)) ids.items) }
+    ensures { IfOk result (λ ids. AreNearBy asked.now (get nat_eq pairs.now) ids.items) }
 {
     let mut found = Found::new(alloc);
     for pair in pairs.values() {
@@ -99,8 +99,8 @@ pub fn among_all(alloc: Global, pairs: &HashMap<u64, (Rid, Box2)>, asked: &Box2)
 
 // The features on the wide list and in the cells of a box.
 pub fn in_cells(alloc: Global, lists: &Lists, asked: &Box2) -> Mem<Vec<Rid>>
-    requires { AreLinked lists.now.newest lists.now.links }
-    ensures finds { IfOk result (λ ids. Finds (id_at lists.now.links) (λ k. is_asked asked.now k.0) ids.items) }
+    requires { AreLinked lists.now }
+    ensures finds { IfOk result (λ ids. FindsAsked (id_at lists.now) asked.now ids.items) }
     ensures once { IfOk result (λ ids. IsDistinct is_same ids.items) }
 {
     let mut found = Found::new(alloc);

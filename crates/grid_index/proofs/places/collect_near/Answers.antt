@@ -7,15 +7,15 @@ use Rattle.grid_index.proofs.places.collect_near.Goals as goal
 pub loop-i-init : goal.loop-i-init
 loop-i-init c = record {
   marked = c.in_ok-collect.ensures.marked;
-  finds = asked_start (id_at c.args.lists.now.links) c.args.asked.now _ (c.in_ok-collect.ensures.finds (λ _. false) c.requires.none);
+  finds = asked_start (id_at c.args.lists.now) c.args.asked.now _ (c.in_ok-collect.ensures.finds (λ _. false) c.requires.none);
 }
 
 pub loop-i-preserved : goal.loop-i-preserved
 loop-i-preserved c = record {
   marked = c.in_ok-collect-2.ensures.marked;
-  finds = asked_next (id_at c.args.lists.now.links) c.args.asked.now c.loop-i.i c.cell_at.result _ c.cell_at.ensures
+  finds = asked_next (id_at c.args.lists.now) c.args.asked.now c.loop-i.i c.cell_at.result _ c.cell_at.ensures
       (c.in_ok-collect-2.ensures.finds (λ k. same_place None k.0 || is_among_first c.loop-i.i (cells c.args.asked.now) k.0) c.loop-i.invariant.finds);
 }
 
 pub returns-clause-finds : goal.returns-clause-finds
-returns-clause-finds c = asked_end (id_at c.args.lists.now.links) c.args.asked.now c.loop-i.i _ c.cell_count-i-end.ensures.upright (omega arith) c.loop-i.invariant.finds
+returns-clause-finds c = asked_end (id_at c.args.lists.now) c.args.asked.now c.loop-i.i _ c.cell_count-i-end.ensures.upright (omega arith) c.loop-i.invariant.finds

@@ -7,5 +7,5 @@ use Rattle.grid_index.proofs.places.collect_near.Given as goal
 abbrev pub invariant-loop-i : goal.invariant-loop-i
 invariant-loop-i l = record {
   marked : AreMarked l.found.marks l.found.ids.items;
-  finds : Finds (id_at l.lists.links) (λ k. same_place None k.0 || is_among_first l.i (cells l.asked) k.0) l.found.ids.items;
+  finds : Finds (id_at l.lists) (λ k. same_place None k.0 || is_among_first l.i (cells l.asked) k.0) l.found.ids.items;
 }

@@ -10,10 +10,10 @@ push-requires-clause-newest c = λ t h. c.requires.newest _ t
 
 pub loop-i-preserved : goal.loop-i-preserved
 loop-i-preserved c = record {
-  ids = changed_next (id_at c.args.lists.now.links) (id_at c.loop-i.lists.links) _ c.args.area.now c.args.number c.loop-i.i (Some c.args.id) c.place_at.result c.place_at.ensures c.loop-i.invariant.ids c.push.ensures.ids;
+  ids = changed_next (id_at c.args.lists.now) (id_at c.loop-i.lists) _ c.args.area.now c.args.number c.loop-i.i (Some c.args.id) c.place_at.result c.place_at.ensures c.loop-i.invariant.ids c.push.ensures.ids;
   linked = c.push.ensures.linked;
   room = omega (arith, c.push.ensures.room, c.loop-i.invariant.room);
 }
 
 pub returns-clause-ids : goal.returns-clause-ids
-returns-clause-ids c = changed_all (id_at c.args.lists.now.links) _ c.args.area.now c.args.number c.loop-i.i (Some c.args.id) c.places-i-end.ensures.upright (omega arith) c.loop-i.invariant.ids
+returns-clause-ids c = changed_all (id_at c.args.lists.now) _ c.args.area.now c.args.number c.loop-i.i (Some c.args.id) c.places-i-end.ensures.upright (omega arith) c.loop-i.invariant.ids

@@ -4,7 +4,7 @@ use Rattle.grid_index.proofs.places.put_in.Given as goal
 
 abbrev pub invariant-loop-i : goal.invariant-loop-i
 invariant-loop-i l = record {
-  ids : (k : Key) → id_at l.lists.links k ≡ cond (is_among_first l.i (place_at l.area) k.0 && nat_eq l.number k.1) (Some l.id) (id_at l.initial.lists.links k);
-  linked : AreLinked l.lists.newest l.lists.links;
-  room : list_room l.initial.lists.newest l.initial.lists.links ≤ list_room l.lists.newest l.lists.links + l.i;
+  ids : (k : Key) → id_at l.lists k ≡ cond (is_among_first l.i (place_at l.area) k.0 && nat_eq l.number k.1) (Some l.id) (id_at l.initial.lists k);
+  linked : AreLinked l.lists;
+  room : list_room l.initial.lists ≤ list_room l.lists + l.i;
 }

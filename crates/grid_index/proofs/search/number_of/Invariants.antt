@@ -6,7 +6,7 @@ use Rattle.grid_index.proofs.search.number_of.Given as goal
 
 abbrev pub invariant-loop-at : goal.invariant-loop-at
 invariant-loop-at l = record {
-  there : (n : ℕ) → l.at ≡ Some n → has l.lists.links l.place n ≡ true;
+  there : (n : ℕ) → l.at ≡ Some n → has l.lists l.place n ≡ true;
   without : (n : ℕ) → reaches l.at n ≡ false → get nat_eq l.pairs n ≢ Some (l.id, l.area);
 }
 

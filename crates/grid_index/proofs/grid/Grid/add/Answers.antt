@@ -8,7 +8,7 @@ use Rattle.grid_index.proofs.grid.Grid.add.Goals as goal
 
 pub invariant_of-self : goal.invariant_of-self
 invariant_of-self c = record {
-  listed = listed_push (get nat_eq c.self.inside.pairs) _ c.self.inside.next (id_at c.self.inside.lists.links) _ c.args.id c.args.area c.self.invariant.listed c.places-places.ensures.upright c.keep.ensures.pairs c.put_in.ensures.ids;
+  listed = listed_push (get nat_eq c.self.inside.pairs) _ c.self.inside.next (id_at c.self.inside.lists) _ c.args.id c.args.area c.self.invariant.listed c.places-places.ensures.upright c.keep.ensures.pairs c.put_in.ensures.ids;
   linked = c.put_in.ensures.linked;
 }
 

@@ -15,11 +15,11 @@ returns-then-is_for_all-clause-meeting c =
 pub returns-clause-exact : goal.returns-clause-exact
 returns-clause-exact c =
     near_in c.args.area.now c.args.self.now.pairs _ c.of-2.result _ (sym (ap (λ (g : Gridded). g.pairs) c.self.view_is)) c.of-2.ensures
-    (found_near c.args.area.now (get nat_eq c.self.inside.pairs) c.self.inside.next (id_at c.self.inside.lists.links) _ c.self.invariant.listed (subst (λ (b : Bounds). IsUpright b) c.area.view_is c.area.invariant)
+    (found_near c.args.area.now (get nat_eq c.self.inside.pairs) c.self.inside.next (id_at c.self.inside.lists) _ c.self.invariant.listed (subst (λ (b : Bounds). IsUpright b) c.area.view_is c.area.invariant)
     (c.is_for_all.ensures c.if-is_for_all.false) c.in_ok-in_cells.ensures.finds c.in_ok-in_cells.ensures.once)
 
 pub returns-clause-meeting : goal.returns-clause-meeting
 returns-clause-meeting c =
     met_in c.args.area.now c.args.self.now.pairs _ c.of-2.result _ (sym (ap (λ (g : Gridded). g.pairs) c.self.view_is)) c.of-2.ensures
-    (found_near c.args.area.now (get nat_eq c.self.inside.pairs) c.self.inside.next (id_at c.self.inside.lists.links) _ c.self.invariant.listed (subst (λ (b : Bounds). IsUpright b) c.area.view_is c.area.invariant)
+    (found_near c.args.area.now (get nat_eq c.self.inside.pairs) c.self.inside.next (id_at c.self.inside.lists) _ c.self.invariant.listed (subst (λ (b : Bounds). IsUpright b) c.area.view_is c.area.invariant)
     (c.is_for_all.ensures c.if-is_for_all.false) c.in_ok-in_cells.ensures.finds c.in_ok-in_cells.ensures.once)

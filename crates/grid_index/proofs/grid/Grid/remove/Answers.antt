@@ -10,7 +10,7 @@ use Rattle.grid_index.proofs.grid.Grid.remove.Goals as goal
 
 pub invariant_of-self : goal.invariant_of-self
 invariant_of-self c = record {
-  listed = listed_take (get nat_eq c.self.inside.pairs) _ c.self.inside.next c.in-Some.number (id_at c.self.inside.lists.links) _ c.args.id c.args.area c.self.invariant.listed c.in-Some.ensures.some c.remove.ensures.updates.0 c.take_out.ensures.ids;
+  listed = listed_take (get nat_eq c.self.inside.pairs) _ c.self.inside.next c.in-Some.number (id_at c.self.inside.lists) _ c.args.id c.args.area c.self.invariant.listed c.in-Some.ensures.some c.remove.ensures.updates.0 c.take_out.ensures.ids;
   linked = c.take_out.ensures.linked;
 }
 

@@ -30,4 +30,4 @@ loop-at-preserved c =
     }
 
 pub returns-clause-finds : goal.returns-clause-finds
-returns-clause-finds c = λ gone f. finds_end (id_at c.args.self.now.links) gone c.args.place c.loop-at.at _ (search rules) (c.loop-at.invariant.finds gone f)
+returns-clause-finds c = λ gone f. finds_end (id_at c.args.self.now) gone c.args.place c.loop-at.at _ (search rules) (c.loop-at.invariant.finds gone f)
