@@ -20,12 +20,16 @@ static PLACED: [(u64, [i64; 4]); 8] = [
     (8, [-65_536, 0, -65_536, 0]),
 ];
 
-static ASKED: [([i64; 4], &[u64]); 8] = [
+static ASKED: [([i64; 4], &[u64]); 10] = [
     ([5, 5, 6, 6], &[1, 4, 5]),
     ([65_535, 0, 65_536, 0], &[1, 2, 4, 5]),
     ([-5, -5, -4, -4], &[3, 5]),
     ([-65_537, 0, -65_537, 0], &[5]),
     ([-65_536, 9, -65_536, 9], &[5, 8]),
+    // on both sides of 0
+    ([-1, 0, 0, 0], &[1, 4, 5, 8]),
+    // more cells than there are pairs
+    ([0, 0, 655_360, 0], &[1, 2, 4, 5]),
     ([524_287, 20_000_000, 524_287, 20_000_000], &[5, 6]),
     ([524_288, 20_000_000, 524_288, 20_000_000], &[5]),
     (
@@ -107,23 +111,48 @@ fn the_mark_in_the_next_cell_is_left_out(rt: HostRuntime) {
     assert_eq!(rt; two_marks_hold(rt.alloc()), Ok(true));
 }
 
-fn remove(grid: &mut Grid) {
-    if let Some(area) = box_of(&PLACED[7].1) {
-        grid.remove(mark(8), area);
+fn remove(grid: &mut Grid, pair: &(u64, [i64; 4])) {
+    if let Some(area) = box_of(&pair.1) {
+        grid.remove(mark(pair.0), area);
     }
 }
 
 // What is near the box of a pair that stands twice, after one is removed, and after the other is.
 fn twice_removed_hold(alloc: Global) -> Mem<bool> {
     let mut grid = filled(alloc, &PLACED[6..])?;
-    remove(&mut grid);
+    remove(&mut grid, &PLACED[7]);
     let once = answers(alloc, &grid, &PLACED[7].1, &[8])?;
-    remove(&mut grid);
-    remove(&mut grid);
+    remove(&mut grid, &PLACED[7]);
+    remove(&mut grid, &PLACED[7]);
     Ok(once && answers(alloc, &grid, &PLACED[7].1, &[])?)
 }
 
 #[test]
 fn one_of_two_equal_pairs_is_removed(rt: HostRuntime) {
     assert_eq!(rt; twice_removed_hold(rt.alloc()), Ok(true));
+}
+
+// features 1 to 3 in one cell, the second in three others besides, and which are left after one was removed
+static TOGETHER: [(u64, [i64; 4]); 3] = [
+    (1, [0, 0, 1, 1]),
+    (2, [65_535, 65_535, 65_536, 65_536]),
+    (3, [7, 7, 7, 7]),
+];
+
+static LEFT: [&[u64]; 3] = [&[2, 3], &[1, 3], &[1, 2]];
+
+fn first_wrong_left(alloc: Global) -> Mem<Option<usize>> {
+    for (i, (pair, left)) in TOGETHER.iter().zip(&LEFT).enumerate() {
+        let mut grid = filled(alloc, &TOGETHER)?;
+        remove(&mut grid, pair);
+        if !answers(alloc, &grid, &[5, 5, 6, 6], left)? {
+            return Ok(Some(i));
+        }
+    }
+    Ok(None)
+}
+
+#[test]
+fn the_others_of_a_cell_stay(rt: HostRuntime) {
+    assert_eq!(rt; first_wrong_left(rt.alloc()), Ok(None));
 }
