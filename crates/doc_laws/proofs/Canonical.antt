@@ -79,14 +79,15 @@ pub record Canon (names : Prefixes) (is_root : Bool) (d : ℕ) (e : Element) (n 
   pub printed_safe : IsSafe (print markup)
   pub same : element_text names is_root e ≡ 60 ∷ encode_utf8_all (print markup)
 
-pub record CanonContent (names : Prefixes) (d : ℕ) (kids : List Element) (n : ℕ) : Type 0 where
+-- elements side by side, each of which may be a root
+pub record CanonContent (names : Prefixes) (is_root : Bool) (d : ℕ) (kids : List Element) (n : ℕ) : Type 0 where
   pub content : Content
-  pub fits : IsContent content d (scope_of names.pairs)
+  pub fits : IsContent content d (outer is_root names.pairs)
   pub kids_are : children content ≡ kids
   pub words : content_text content ≡ []
   pub counted : counts content ≤ n
   pub printed_safe : IsSafe (print_content content)
-  pub same : flat_map (element_text names false) kids ≡ encode_utf8_all (print_content content)
+  pub same : flat_map (element_text names is_root) kids ≡ encode_utf8_all (print_content content)
 
 -- ---- an element without content
 
@@ -111,7 +112,7 @@ leaf_canon names is_root d name xs n deep some few w = record {
 -- ---- an element with content
 
 -- the text of a whole element, around its content
-frame : (stem body s : List ℕ) → encode_utf8_all s ≡ s
+pub frame : (stem body s : List ℕ) → encode_utf8_all s ≡ s
     → (60 ∷ encode_utf8_all stem) ++ ((62 ∷ encode_utf8_all body) ++ (60 ∷ 47 ∷ (s ++ 62 ∷ []))) ≡ 60 ∷ encode_utf8_all ((stem ++ tag_end false) ++ (body ++ 60 ∷ 47 ∷ (s ++ ([] ++ 62 ∷ []))))
 unfolding lib.Utf8.encode
 frame stem body s same =
@@ -155,12 +156,12 @@ full_bytes names is_root name xs kid kids stem body k same inside =
     ∙ ap (λ (x : List ℕ). x ++ (62 ∷ (texts ++ end))) same
     ∙ ap (λ (x : List ℕ). (60 ∷ encode_utf8_all stem) ++ (62 ∷ (x ++ end))) inside
 
-whole_safe : (stem body s : List ℕ) → IsSafe stem → IsSafe body → IsSafe s → IsSafe ((stem ++ tag_end false) ++ (body ++ 60 ∷ 47 ∷ (s ++ ([] ++ 62 ∷ []))))
+pub whole_safe : (stem body s : List ℕ) → IsSafe stem → IsSafe body → IsSafe s → IsSafe ((stem ++ tag_end false) ++ (body ++ 60 ∷ 47 ∷ (s ++ ([] ++ 62 ∷ []))))
 whole_safe stem body s a b c =
     all_join safe (stem ++ 62 ∷ []) (body ++ 60 ∷ 47 ∷ (s ++ 62 ∷ [])) (all_join safe stem (62 ∷ []) a refl)
     (all_join safe body (60 ∷ 47 ∷ (s ++ 62 ∷ [])) b (all_join safe s (62 ∷ []) c refl))
 
-unmixed_if : (kids : List Element) (text : List ℕ) → text ≡ [] → IsUnmixed kids text
+pub unmixed_if : (kids : List Element) (text : List ℕ) → text ≡ [] → IsUnmixed kids text
 unmixed_if [] text none = tt
 unmixed_if (k ∷ kids) text none = ap (list_all (holds Space)) none
 
@@ -181,7 +182,7 @@ text_canon names is_root d name xs text vs n deep more few k w allowed is some =
     }
 
 full_canon : (names : Prefixes) (is_root : Bool) (d : ℕ) (name : QName) (xs : List Attribute) (kid : Element) (kids : List Element) (n : ℕ) → 0 < d → IsFew xs → Known names.pairs name → WroteHead names is_root name xs
-    → CanonContent names (pred d) (kid ∷ kids) n → Canon names is_root d (tree name xs (kid ∷ kids) []) (suc n)
+    → CanonContent names false (pred d) (kid ∷ kids) n → Canon names is_root d (tree name xs (kid ∷ kids) []) (suc n)
 full_canon names is_root d name xs kid kids n deep few k w c = record {
   markup = whole (w.stem ++ tag_end false) (head_of names.pairs name xs false) c.content [];
   fits = (deep, refl, w.spells false, few, c.fits, refl, unmixed_if (children c.content) (content_text c.content) c.words);
@@ -195,8 +196,8 @@ full_canon names is_root d name xs kid kids n deep few k w c = record {
 some_bytes : (v : ℕ) (vs text : List ℕ) → text ≡ encode_utf8_all (v ∷ vs) → (length text == 0) ≡ false
 some_bytes v vs text is = false_unless (length text == 0) (λ e. absurd (omega (arith, eqb-true (length text) 0 e, ap length is, length-le-encodes (v ∷ vs))))
 
-whole_canon : (names : Prefixes) (is_root : Bool) (d : ℕ) (name : QName) (xs : List Attribute) (kids : List Element) (text : List ℕ) (n : ℕ) → 0 < d → IsFew xs → Known names.pairs name → WroteHead names is_root name xs
-    → Meant text → CanonContent names (pred d) kids n → Canon names is_root d (tree name xs kids (text_if kids text)) (suc n)
+pub whole_canon : (names : Prefixes) (is_root : Bool) (d : ℕ) (name : QName) (xs : List Attribute) (kids : List Element) (text : List ℕ) (n : ℕ) → 0 < d → IsFew xs → Known names.pairs name → WroteHead names is_root name xs
+    → Meant text → CanonContent names false (pred d) kids n → Canon names is_root d (tree name xs kids (text_if kids text)) (suc n)
 whole_canon names is_root d name xs [] text n deep few k w meant c = go meant.characters meant.allowed meant.is
   where
     go : (vs : List ℕ) → list_all is_allowed vs ≡ true → text ≡ encode_utf8_all vs → Canon names is_root d (tree name xs [] text) (suc n)
@@ -206,19 +207,19 @@ whole_canon names is_root d name xs (kid ∷ kids) text n deep few k w meant c =
 
 -- ---- content
 
-no_content : (names : Prefixes) (d : ℕ) → CanonContent names d [] 0
-no_content names d = record { content = last []; fits = plain_run [] refl; kids_are = refl; words = refl; counted = omega arith; printed_safe = refl; same = refl }
+pub no_content : (names : Prefixes) (is_root : Bool) (d : ℕ) → CanonContent names is_root d [] 0
+no_content names is_root d = record { content = last []; fits = plain_run [] refl; kids_are = refl; words = refl; counted = omega arith; printed_safe = refl; same = refl }
 
-one_child : (names : Prefixes) (d : ℕ) (kid : Element) (kids : List Element) (n m : ℕ) → Canon names false d kid n → CanonContent names d kids m → CanonContent names d (kid ∷ kids) (n + m)
+pub one_child : (names : Prefixes) (is_root : Bool) (d : ℕ) (kid : Element) (kids : List Element) (n m : ℕ) → Canon names is_root d kid n → CanonContent names is_root d kids m → CanonContent names is_root d (kid ∷ kids) (n + m)
 unfolding lib.Utf8.encode
-one_child names d kid kids n m k c = record {
+one_child names is_root d kid kids n m k c = record {
   content = child [] k.markup c.content;
   fits = (plain_run [] refl, k.fits, c.fits);
   kids_are = ap (λ (e : Element). e ∷ children c.content) k.means ∙ ap (λ (es : List Element). kid ∷ es) c.kids_are;
   words = c.words;
   counted = omega (arith, k.counted, c.counted);
   printed_safe = all_join safe (print k.markup) (print_content c.content) k.printed_safe c.printed_safe;
-  same = ap (λ (x : List ℕ). x ++ flat_map (element_text names false) kids) k.same ∙ ap (λ (x : List ℕ). 60 ∷ (encode_utf8_all (print k.markup) ++ x)) c.same ∙ ap (λ (x : List ℕ). 60 ∷ x) (sym (encodes-append (print k.markup) (print_content c.content)));
+  same = ap (λ (x : List ℕ). x ++ flat_map (element_text names is_root) kids) k.same ∙ ap (λ (x : List ℕ). 60 ∷ (encode_utf8_all (print k.markup) ++ x)) c.same ∙ ap (λ (x : List ℕ). 60 ∷ x) (sym (encodes-append (print k.markup) (print_content c.content)));
 }
 
 written_head : (names : Prefixes) (is_root : Bool) (h : Head) (kids : List Element) → ArePrefixes names → Facts h → Covered names h.name h.attributes kids → WroteHead names is_root h.name h.attributes
@@ -238,8 +239,8 @@ mutual
       whole_canon names is_root d h.name h.attributes (children inside) (content_text inside) (counts inside) is.0 is.3 (known names h.name are c.own f.local) (written_head names is_root h (children inside) are f c)
       (content_meant inside (pred d) h.scope is.4 b.0) (canons names inside (pred d) h.scope are is.4 f.scope b.0 c.children)
 
-  pub canons : (names : Prefixes) (c : Content) (d : ℕ) (scope : List Bound) → ArePrefixes names → IsContent c d scope → AllStand scope → AreAllowed (print_content c) → list_all (covers names) (children c) ≡ true → CanonContent names d (children c) (counts c)
-  canons names (last run) d scope are is all allowed covering = no_content names d
+  pub canons : (names : Prefixes) (c : Content) (d : ℕ) (scope : List Bound) → ArePrefixes names → IsContent c d scope → AllStand scope → AreAllowed (print_content c) → list_all (covers names) (children c) ≡ true → CanonContent names false d (children c) (counts c)
+  canons names (last run) d scope are is all allowed covering = no_content names false d
   canons names (piece run p c) d scope are is all allowed covering =
       let a = all_both is_allowed run (print_piece p ++ print_content c) allowed in
       let b = all_both is_allowed (print_piece p) (print_content c) a.1 in
@@ -248,4 +249,4 @@ mutual
       let a = all_both is_allowed run (60 ∷ (print m ++ print_content c)) allowed in
       let b = all_both is_allowed (print m) (print_content c) a.1 in
       let k = both (covers names (meaning m)) (list_all (covers names) (children c)) covering in
-      one_child names d (meaning m) (children c) (count m) (counts c) (canon names m false d scope are is.1 all b.0 k.0) (canons names c d scope are is.2 all b.1 k.1)
+      one_child names false d (meaning m) (children c) (count m) (counts c) (canon names m false d scope are is.1 all b.0 k.0) (canons names c d scope are is.2 all b.1 k.1)

@@ -5,4 +5,7 @@ pub mod Prefixed
 pub mod Declared
 pub mod Heads
 pub mod Canonical
+pub mod Sizes
 pub mod Whole
+pub mod Nodes
+pub mod Around

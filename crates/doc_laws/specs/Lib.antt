@@ -1,1 +1,2 @@
+pub mod InDocument
 pub mod RoundTrip
