@@ -1,7 +1,7 @@
 -- Canonical texts of trees, one behind the other in an element without attributes, spell that element with those trees in it.
-use Rattle.std.proofs.Common.{◌≡◌, ℕ, suc, ◌≤◌, ◌<◌, Bool, true, false, List, [], ◌∷◌, ◌++◌, Ok, refl, sym, ap, subst, ◌∙◌, arith}
+use Rattle.std.proofs.Common.{◌≡◌, ℕ, ◌<◌, true, false, List, [], ◌∷◌, ◌++◌, Ok, refl, sym, ap, ◌∙◌, arith}
 use Rattle.std.specs.Prelude.{encode_utf8_all}
-use Rattle.std.specs.List.{list_all, flat_map}
+use Rattle.std.specs.List.{flat_map}
 use Rattle.std.proofs.lemmas.List.{append-nil}
 use Rattle.wfs_ends.specs.Read.{each}
 use Rattle.doc_tree.specs.Tree.{document_text}
@@ -11,7 +11,7 @@ use Rattle.doc_tree.specs.declared.tree.Prefixes.{Prefixes}
 use Rattle.doc_read.specs.Lex.{Spelling}
 use Rattle.doc_read.specs.Scope.{xml_scope, has_twins, has_unknown, newest, element_name}
 use Rattle.doc_read.specs.Element.{Head, tree}
-use Rattle.doc_read.specs.Grammar.{IsName, IsSpelling, spell, tag_end, SpellsTag, SpellsHead, Markup, whole, print, print_content, content_text, meaning, children, counts, text_if, IsMarkup, Spells}
+use Rattle.doc_read.specs.Grammar.{IsName, tag_end, SpellsTag, SpellsHead, Markup, whole, print_content, content_text, meaning, children, text_if, IsMarkup, Spells}
 use Rattle.doc_laws.proofs.Encoding.{name_same, name_safe}
 use Rattle.doc_laws.proofs.Canonical.{CanonContent, frame, whole_safe, unmixed_if}
 use Rattle.doc_laws.proofs.Whole.{spelled_by}

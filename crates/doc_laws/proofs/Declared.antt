@@ -17,7 +17,7 @@ use Rattle.doc_read.proofs.Again.{same_bytes}
 use Rattle.doc_read.proofs.Repeats.{pair_is, pair_itself}
 use Rattle.doc_laws.specs.RoundTrip.{IsPair, ArePairs, ArePrefixes, is_covered}
 use Rattle.doc_laws.proofs.Encoding.{name_same}
-use Rattle.doc_laws.proofs.Facts.{bytes_same, IsGood, AreGood}
+use Rattle.doc_laws.proofs.Facts.{IsGood, AreGood}
 use Rattle.doc_laws.proofs.Prefixed.{Pairs, bound_of, scope_of, spelling_of, Known, known, neither, clash, written_apart}
 
 abbrev pub raw_of : Pairs → Attribute → Raw

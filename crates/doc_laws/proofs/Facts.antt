@@ -43,7 +43,7 @@ pub record Meant (bytes : List ℕ) : Type 0 where
   pub allowed : list_all is_allowed characters ≡ true
   pub is : bytes ≡ encode_utf8_all characters
 
-meant_then : (a b : List ℕ) → Meant a → Meant b → Meant (a ++ b)
+pub meant_then : (a b : List ℕ) → Meant a → Meant b → Meant (a ++ b)
 meant_then a b x y = record {
   characters = x.characters ++ y.characters;
   allowed = all_join is_allowed x.characters y.characters x.allowed y.allowed;
@@ -53,7 +53,7 @@ meant_then a b x y = record {
 meant_run : (run : List ℕ) → AreAllowed run → Meant (encode_utf8_all run)
 meant_run run allowed = record { characters = run; allowed = allowed; is = refl }
 
-meant_one : (c : ℕ) → is_allowed c ≡ true → Meant (encode_utf8 c)
+pub meant_one : (c : ℕ) → is_allowed c ≡ true → Meant (encode_utf8 c)
 meant_one c allowed = record { characters = c ∷ []; allowed = rw allowed refl; is = sym (append-nil (encode_utf8 c)) }
 
 named_allowed : (name : List ℕ) (c : ℕ) → named_reference name ≡ Ok c → is_allowed c ≡ true

@@ -1,6 +1,5 @@
 -- Canonical texts of elements that are made of parts, and how large they may be.
-use Rattle.std.proofs.Common.{◌≡◌, ℕ, suc, pred, ◌≤◌, ◌<◌, Bool, true, false, List, [], ◌∷◌, length, refl, arith}
-use Rattle.std.specs.Prelude.{codes}
+use Rattle.std.proofs.Common.{◌≡◌, ℕ, suc, pred, ◌+◌, ◌≤◌, ◌<◌, Bool, true, false, List, [], ◌∷◌, refl, arith}
 use Rattle.std.specs.List.{list_all}
 use Rattle.doc_tree.specs.declared.tree.QName.{QName}
 use Rattle.doc_tree.specs.declared.tree.Attribute.{Attribute}
@@ -14,7 +13,7 @@ use Rattle.doc_laws.specs.RoundTrip.{ArePrefixes, is_covered}
 use Rattle.doc_laws.proofs.Facts.{Meant, AreGood}
 use Rattle.doc_laws.proofs.Prefixed.{known}
 use Rattle.doc_laws.proofs.Heads.{head_written}
-use Rattle.doc_laws.proofs.Canonical.{Canon, CanonContent, whole_canon}
+use Rattle.doc_laws.proofs.Canonical.{Canon, CanonContent, no_content, one_child, whole_canon}
 
 -- ---- an element of parts
 
@@ -69,3 +68,23 @@ content_more names is_root d k n m es le few c = record {
   printed_safe = c.printed_safe;
   same = c.same;
 }
+
+-- ---- elements of parts, within so many levels and elements
+
+pub bare : (names : Prefixes) (name : QName) → is_covered names name ≡ true → IsName name.local → IsTag names name []
+unfolding has_twins
+bare names name covered local = record { covered = covered; local = local; attributes = refl; good = tt; once = refl; few = omega arith }
+
+pub standing_node : (names : Prefixes) (is_root : Bool) (d n : ℕ) (name : QName) (xs : List Attribute) (kids : List Element) (text : List ℕ) → ArePrefixes names → IsTag names name xs → Meant text → 0 < d → 0 < n
+    → CanonContent names false (pred d) kids (pred n) → Canon names is_root d (tree name xs kids (text_if kids text)) n
+standing_node names is_root d n name xs kids text are tag meant deep some c =
+    more names is_root (suc (pred d)) d (suc (pred n)) n _ (omega (arith, deep)) (omega (arith, some)) (node names is_root (pred d) (pred n) name xs kids text are tag meant c)
+
+pub nothing : (names : Prefixes) (is_root : Bool) (d n : ℕ) → CanonContent names is_root d [] n
+nothing names is_root d n = content_more names is_root d d 0 n [] (omega arith) (omega arith) (no_content names is_root d)
+
+pub beside : (names : Prefixes) (is_root : Bool) (d k m n : ℕ) (e : Element) (es : List Element) → k + m ≤ n → Canon names is_root d e k → CanonContent names is_root d es m → CanonContent names is_root d (e ∷ es) n
+beside names is_root d k m n e es total one all = content_more names is_root d d (k + m) n (e ∷ es) (omega arith) total (one_child names is_root d e es k m one all)
+
+pub alone : (names : Prefixes) (is_root : Bool) (d n : ℕ) (e : Element) → Canon names is_root d e n → CanonContent names is_root d (e ∷ []) n
+alone names is_root d n e one = beside names is_root d n 0 n e [] (omega arith) one (nothing names is_root d 0)

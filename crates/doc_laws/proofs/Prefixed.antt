@@ -11,14 +11,11 @@ use Rattle.doc_tree.specs.Tree.{prefix_of, prefixed, with_prefix}
 use Rattle.doc_tree.specs.declared.tree.QName.{QName}
 use Rattle.doc_tree.specs.declared.tree.Prefixes.{Prefixes}
 use Rattle.doc_read.specs.declared.scope.Bound.{Bound}
-use Rattle.doc_read.specs.declared.lex.Class.TheVariants.{NameStart}
-use Rattle.doc_read.specs.Chars.{holds}
-use Rattle.doc_read.specs.Lex.{Spelling, spelled_at}
+use Rattle.doc_read.specs.Lex.{Spelling}
 use Rattle.doc_read.specs.Scope.{has_twins, is_none, written, xml_scope, newer, newest, space_of, is_declaration, element_name, attribute_space}
 use Rattle.doc_read.specs.Grammar.{IsName, IsPrefix, IsSpelling, spell, spelling}
 use Rattle.doc_read.proofs.Fronts.{false_unless}
-use Rattle.doc_read.proofs.Again.{Ends, spelled_again, same_bytes}
-use Rattle.doc_read.proofs.Takes.{is_it}
+use Rattle.doc_read.proofs.Again.{same_bytes}
 use Rattle.doc_laws.specs.RoundTrip.{ArePairs, ArePrefixes, is_covered}
 use Rattle.doc_laws.proofs.Encoding.{safe, IsSafe, all_join, name_same, name_safe}
 use Rattle.doc_laws.proofs.Facts.{bytes_same, not_zero}

@@ -1,11 +1,12 @@
 -- A tree that some text spells is no larger than the text allows, and holds texts alone.
-use Rattle.std.proofs.Common.{◌≡◌, ℕ, suc, pred, max, ◌+◌, ◌<◌, ◌≤◌, Bool, true, ◌&&◌, List, [], ◌∷◌, ◌++◌, map, sum, refl, sym, ap, subst, ◌∙◌, arith}
-use Rattle.std.specs.Prelude.{encode_utf8_all}
+use Rattle.std.proofs.Common.{◌≡◌, ℕ, suc, pred, ◌+◌, ◌<◌, ◌≤◌, Bool, true, ◌&&◌, List, [], ◌∷◌, ◌++◌, map, sum, refl, sym, ap, subst, ◌∙◌, arith}
+use Rattle.std.specs.Prelude.{encode_utf8_all, nat_le}
 use Rattle.std.specs.List.{list_all}
 use Rattle.std.specs.Str.{is_utf8, chars}
 use Rattle.std.proofs.lemmas.List.Folds.{list_all-map}
 use Rattle.std.proofs.lemmas.List.Sums.{sum_by-cons}
-use Rattle.std.proofs.lemmas.Str.{is_utf8-from_IsUtf8, IsUtf8-from_is_utf8, encodes-chars, chars-encodes}
+use Rattle.std.proofs.lemmas.Bool.Decides.{nat_tests}
+use Rattle.std.proofs.lemmas.Str.{encode_ascii, is_utf8-from_IsUtf8, IsUtf8-from_is_utf8, encodes-chars, chars-encodes}
 use Rattle.doc_tree.specs.declared.tree.QName.{QName}
 use Rattle.doc_tree.specs.declared.tree.Attribute.{Attribute}
 use Rattle.doc_tree.specs.declared.tree.Element.{Element, out-Element}
@@ -18,7 +19,7 @@ use Rattle.doc_read.specs.Grammar.{spell, Markup, leaf, whole, Content, last, pi
 use Rattle.doc_read.proofs.Fronts.{both}
 use Rattle.doc_laws.specs.InDocument.{greatest, levels, elements, is_text, holds_texts}
 use Rattle.doc_laws.proofs.Encoding.{all_both, are_scalars}
-use Rattle.doc_laws.proofs.Facts.{AreAllowed, AllStand, Meant, IsGood, AreGood, content_meant, head_facts}
+use Rattle.doc_laws.proofs.Facts.{AreAllowed, AllStand, Meant, AreGood, content_meant, head_facts}
 
 -- ---- texts
 
@@ -36,6 +37,27 @@ text_meant text is =
 
 pub no_text : Meant []
 no_text = record { characters = []; allowed = refl; is = refl }
+
+-- bytes that are characters of their own, and that can be seen
+abbrev pub is_visible : ℕ → Bool
+is_visible b = nat_le 32 b && nat_le b 126
+
+visible_low : (b : ℕ) → is_visible b ≡ true → b < 128
+visible_low b h = grind (arith, nat_tests, h)
+
+visible_allowed : (b : ℕ) → is_visible b ≡ true → is_allowed b ≡ true
+visible_allowed b h = grind (arith, nat_tests, h)
+
+pub visible_meant : (bs : List ℕ) → list_all is_visible bs ≡ true → Meant bs
+visible_meant [] h = no_text
+visible_meant (b ∷ bs) h =
+    let k = both (is_visible b) (list_all is_visible bs) h in
+    let rest = visible_meant bs k.1 in
+    record {
+      characters = b ∷ rest.characters;
+      allowed = rw (visible_allowed b k.0) rest.allowed;
+      is = ap (λ (x : List ℕ). b ∷ x) rest.is ∙ ap (λ (x : List ℕ). x ++ encode_utf8_all rest.characters) (sym (encode_ascii b (visible_low b k.0)));
+    }
 
 values_hold : (xs : List Attribute) → AreGood xs → list_all (λ a. is_text a.value) xs ≡ true
 values_hold [] good = refl
@@ -104,6 +126,31 @@ parts d n e f =
       text = b.0;
       values = b.1;
       kids = record { texts = sym (list_all-map (λ c. c) holds_texts o.children) ∙ a.1; deep = omega (arith, deep); many = omega (arith, many) };
+    }
+
+-- the first of several elements, and those behind it
+pub record Split (d n : ℕ) (e : Element) (es : List Element) : Type 0 where
+  pub here : ℕ
+  pub there : ℕ
+  pub total : here + there ≤ n
+  pub one : Fits d here e
+  pub rest : FitAll d there es
+  pub deep : 0 < d
+  pub some : 0 < here
+
+pub split : (d n : ℕ) (e : Element) (es : List Element) → FitAll d n (e ∷ es) → Split d n e es
+split d n e es f =
+    let k = both (holds_texts e) (list_all holds_texts es) f.texts in
+    let one : Fits d (elements e) e = record { texts = k.0; deep = omega (arith, f.deep); many = omega arith } in
+    let inside = parts d (elements e) e one in
+    record {
+      here = elements e;
+      there = sum (map elements es);
+      total = omega (arith, f.many, sum_cons (elements e) (map elements es));
+      one = one;
+      rest = record { texts = k.1; deep = omega (arith, f.deep); many = omega arith };
+      deep = inside.deep;
+      some = inside.many;
     }
 
 -- ---- what some text spells

@@ -5,7 +5,7 @@ use Rattle.std.specs.List.{list_all}
 use Rattle.std.specs.Str.{chars}
 use Rattle.std.proofs.lemmas.List.{append-nil}
 use Rattle.std.proofs.lemmas.Str.{chars-encodes}
-use Rattle.doc_tree.specs.Tree.{document_text, element_text}
+use Rattle.doc_tree.specs.Tree.{document_text}
 use Rattle.doc_tree.specs.declared.tree.Element.{Element}
 use Rattle.doc_tree.specs.declared.tree.Prefixes.{Prefixes}
 use Rattle.doc_tree.specs.Characters.{is_allowed}
@@ -17,7 +17,8 @@ use Rattle.doc_laws.specs.RoundTrip.{ArePrefixes, Covers, covers}
 use Rattle.doc_laws.proofs.Encoding.{IsSafe, all_both, are_allowed, are_scalars, lines_same}
 use Rattle.doc_laws.proofs.Facts.{AreAllowed, text_allowed}
 use Rattle.doc_laws.proofs.Sizes.{Fits, markup_fits}
-use Rattle.doc_laws.proofs.Canonical.{canon}
+use Rattle.doc_laws.proofs.Canonical.{Canon, canon}
+use Rattle.doc_laws.proofs.Nodes.{more}
 
 markup_text : (cs : List ℕ) (e : Element) (s : SpellsText cs e) → AreAllowed cs → AreAllowed (print s.markup)
 markup_text cs e s allowed =
@@ -55,14 +56,16 @@ spelled_by bytes e m fits means counted safely is =
       spells = subst (λ (x : List ℕ). SpellsText x e) (sym lines) text;
     }
 
+pub canon_spelled : (names : Prefixes) (e : Element) → Canon names true 32 e 100000 → Spells (document_text names e) e
+canon_spelled names e c = spelled_by (document_text names e) e c.markup c.fits c.means c.counted c.printed_safe c.same
+
 pub round_trip : (names : Prefixes) (e : Element) (bytes : List ℕ) → ArePrefixes names → Covers names e → Spells bytes e → Spells (document_text names e) e
 round_trip names e bytes are covering s =
     let t = s.spells in
     let allowed = markup_text (line_feeds false (unmarked (chars bytes))) e t (text_allowed (chars bytes) s.allowed) in
     let covering' : covers names (meaning t.markup) ≡ true = ap (covers names) t.means ∙ covering in
     let c = canon names t.markup true 32 xml_scope are t.fits refl allowed covering' in
-    let is : element_text names true e ≡ 60 ∷ encode_utf8_all (print c.markup) = ap (element_text names true) (sym t.means) ∙ c.same in
-    spelled_by (document_text names e) e c.markup c.fits (c.means ∙ t.means) (omega (arith, c.counted, t.few)) c.printed_safe is
+    canon_spelled names e (more names true 32 32 (count t.markup) 100000 e (omega arith) t.few (subst (λ (x : Element). Canon names true 32 x (count t.markup)) t.means c))
 
 -- what some text spells may stand in a document
 pub in_document : (bytes : List ℕ) (e : Element) → Spells bytes e → IsInDocument e

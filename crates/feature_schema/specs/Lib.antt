@@ -1,4 +1,5 @@
 pub mod File
+pub mod Rules
 pub mod Signature
 pub mod Tables
 pub mod Texts

@@ -1,7 +1,7 @@
 -- The texts and names that a schema file may hold.
 use Rattle.std.specs.Prelude.{ℕ, Bool, false, not, ◌&&◌, ◌||◌, ◌==◌, nat_le, nat_eq, List, [], ◌∷◌, length, codes}
 use Rattle.std.specs.List.{list_all, starts_with}
-use Rattle.std.specs.Str.{bytes_eq, chars}
+use Rattle.std.specs.Str.{bytes_eq, is_utf8, chars}
 
 abbrev pub is_in_range : ℕ → ℕ → ℕ → Bool
 is_in_range low high c = nat_le low c && nat_le c high
@@ -12,7 +12,7 @@ is_line_character c = (c == 9) || ((c == 13) || (is_in_range 32 55295 c || (is_i
 
 -- a text of 1 to 256 such characters
 unfoldable pub is_line : List ℕ → Bool
-is_line text = is_in_range 1 256 (length (chars text)) && list_all is_line_character (chars text)
+is_line text = is_utf8 text && (is_in_range 1 256 (length (chars text)) && list_all is_line_character (chars text))
 
 -- an ASCII letter or _
 unfoldable pub is_name_start : ℕ → Bool

@@ -1,9 +1,10 @@
 //! The whole file, and the keys at its top.
 
-ghost use Rattle.std.specs.Prelude.{◌≡◌, [], map};
+ghost use Rattle.std.specs.Prelude.{◌≡◌, [], map, IfOk};
 ghost use Rattle.toml.specs.View.{view, table_view};
 ghost use Rattle.wfs_ends.specs.Read.{GivesBut, each};
 ghost use Rattle.feature_schema.specs.File.{srs_step, srs_at, schema_at, schema_of};
+ghost use Rattle.feature_schema.specs.Rules.{KeepsRules};
 ghost use Rattle.feature_schema.specs.declared.fault.SchemaFault.TheVariants.{OutOfMemory};
 
 use crate::fault::{SchemaFault, bad_key};
@@ -72,6 +73,14 @@ fn schema_at(alloc: Global, table: &Table) -> Result<Schema, SchemaFault>
     })
 }
 
+#[tactic(auto, unfolding(crate::specs::File::schema_of))]
+fn schema_of(alloc: Global, bytes: &[u8]) -> Result<Schema, SchemaFault>
+    ensures { GivesBut OutOfMemory (λ s. s) result (schema_of bytes.now) }
+{
+    let table = table_of(alloc, bytes)?;
+    schema_at(alloc, &table)
+}
+
 /// Reads the schema file of a service: a TOML 1.1 document. Which table its bytes mean, and which bytes are no document,
 /// is as the kit's `toml` defines it.
 ///
@@ -88,10 +97,9 @@ fn schema_at(alloc: Global, table: &Table) -> Result<Schema, SchemaFault>
 /// (`Twice`), its properties (`Key`, and `TooMany` over 64), and unknown keys by name; and of each property its name
 /// (`Key`), a name that an earlier one of the type has (`Twice`), its kind (`Key`, or `Kind` for an unknown one),
 /// `required`, `max` and unknown keys (`Key`). `OutOfMemory`: there is no memory for the schema or the fault.
-#[tactic(auto, unfolding(crate::specs::File::schema_of))]
 pub fn read_schema(alloc: Global, bytes: &[u8]) -> Result<Schema, SchemaFault>
-    ensures { GivesBut OutOfMemory (λ s. s) result (schema_of bytes.now) }
+    ensures gives { GivesBut OutOfMemory (λ s. s) result (schema_of bytes.now) }
+    ensures keeps { IfOk result KeepsRules }
 {
-    let table = table_of(alloc, bytes)?;
-    schema_at(alloc, &table)
+    schema_of(alloc, bytes)
 }

@@ -1,6 +1,6 @@
 //! Which texts are lines, names and prefixes.
 
-ghost use Rattle.std.specs.Prelude.{◌≡◌, length};
+ghost use Rattle.std.specs.Prelude.{◌≡◌, ◌&&◌, length};
 ghost use Rattle.std.specs.List.{list_all};
 ghost use Rattle.std.specs.Str.{chars};
 ghost use Rattle.feature_schema.specs.Texts.{is_in_range, is_line_character, is_line, is_name_start, is_name_byte, is_name, is_taken, is_prefix};
@@ -28,13 +28,19 @@ fn count_of_characters(text: &str) -> usize
     text.chars().count()
 }
 
-// A text of 1 to 256 characters of XML, without line feeds.
-#[tactic(auto, unfolding(crate::specs::Texts::is_line))]
-pub(crate) fn is_line(text: &str) -> bool
-    ensures { result ≡ is_line text.now }
+// 1 to 256 characters of XML, without line feeds.
+fn has_line_characters(text: &str) -> bool
+    ensures { result ≡ (is_in_range 1 256 (length (chars text.now)) && list_all is_line_character (chars text.now)) }
 {
     let count = count_of_characters(text);
     count >= 1 && count <= 256 && are_line_characters(text)
+}
+
+// A text of 1 to 256 characters of XML, without line feeds.
+pub(crate) fn is_line(text: &str) -> bool
+    ensures { result ≡ is_line text.now }
+{
+    has_line_characters(text)
 }
 
 #[tactic(auto, unfolding(crate::specs::Texts::is_name_start))]

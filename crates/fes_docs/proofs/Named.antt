@@ -99,7 +99,7 @@ longer front rest c =
     let all : length (front ++ c ∷ rest) ≡ length front + suc (length rest) = length-append front (c ∷ rest) in
     ne_eqb (length front) (length (front ++ c ∷ rest)) (λ e. omega (arith, all, e))
 
-prefix_dropped : (prefix name : List ℕ) → list_any is_colon prefix ≡ false → without_prefix (prefixed prefix name) ≡ name
+pub prefix_dropped : (prefix name : List ℕ) → list_any is_colon prefix ≡ false → without_prefix (prefixed prefix name) ≡ name
 unfolding without_prefix prefixed joined
 prefix_dropped prefix name h =
     let next : length prefix + 1 ≡ suc (length prefix) = omega arith in
@@ -112,7 +112,7 @@ property_is : (of_type : FeatureType) (name : List ℕ) (i : ℕ) → property_n
 unfolding property_named
 property_is of_type name i e = first_named (λ p. p.name) name i of_type.properties e
 
-property_again : (of_type : Option FeatureType) (prefix name : List ℕ) (i : ℕ) (k : ValueKind) → list_any is_colon prefix ≡ false
+pub property_again : (of_type : Option FeatureType) (prefix name : List ℕ) (i : ℕ) (k : ValueKind) → list_any is_colon prefix ≡ false
     → property_in of_type name ≡ Some (i, k) → property_in of_type (prefixed prefix (property_name of_type i)) ≡ Some (i, k)
 property_again None prefix name i k h e = absurd cc
 property_again (Some of_type) prefix name i k h e =

@@ -1,4 +1,5 @@
 pub mod Finds
+pub mod Kept
 pub mod Keys
 pub mod Requests
 pub mod Sound

@@ -1,8 +1,9 @@
 //! The request of a query of pairs.
 
-ghost use Rattle.std.specs.Prelude.{◌≡◌, IfOk};
+ghost use Rattle.std.specs.Prelude.{◌≡◌, All, IfOk};
 ghost use Rattle.wfs_ends.specs.Read.{GivesBut};
-ghost use Rattle.wfs_model.specs.OfSchema.{IsOfSchema};
+ghost use Rattle.wfs_model.specs.OfSchema.{stored_in, IsOfSchema};
+ghost use Rattle.query_docs.specs.Reading.{IsKeptText};
 ghost use Rattle.kvp_queries.specs.Pairs.{said_by};
 ghost use Rattle.kvp_queries.specs.Request.{version_for, base_of, request_of, judged, asked_of};
 
@@ -136,6 +137,8 @@ fn asked_of(alloc: Global, query: &str, schema: &Schema) -> Result<Request, AskF
 pub fn read_query(alloc: Global, query: &str, schema: &Schema) -> Result<Request, AskFault>
     ensures read { GivesBut AskFault.OutOfMemory (λ r. r) result (asked_of query.now schema.now) }
     ensures of_schema { IfOk result (λ r. IsOfSchema schema.now r) }
+    // No stored query is made, whose text would have to read back.
+    ensures kept { IfOk result (λ r. All (IsKeptText schema.now) (stored_in r)) }
 {
     asked_of(alloc, query, schema)
 }

@@ -10,7 +10,8 @@ use Rattle.std.proofs.lemmas.List.Concat.{flat_map-cons}
 use Rattle.std.proofs.lemmas.List.Elements.{All-nil, All-cons, All-push, All-map, All-get_or}
 use Rattle.std.proofs.lemmas.List.Quantifiers.{all_pairs_push}
 use Rattle.wfs_ends.specs.Read.{GivesBut, each, unless}
-use Rattle.wfs_ends.proofs.Turns.{bind_ok, chosen, ok_is}
+use Rattle.wfs_ends.proofs.Turns.{bind_ok, if_ok, chosen, ok_is}
+use Rattle.doc_read.specs.Document.{document}
 use Rattle.doc_tree.specs.declared.tree.Element.{Element, out-Element}
 use Rattle.feature_values.specs.Ids.{type_named, property_named, without_prefix}
 use Rattle.feature_values.specs.declared.schema.Property.{Property as SchemaProperty}
@@ -41,6 +42,10 @@ use Rattle.query_docs.specs.Sorting.{sortable, sorted_by, order_of, key_with, ke
 use Rattle.query_docs.specs.Queries.{type_of, query_others, no_clauses, with_filter, with_sort, next_clause, or_no_keys, query_of, is_several}
 use Rattle.query_docs.specs.Asked.{Given, name_of, is_given, next_given, use_others, use_of, plain_of, asked_of, IsAskedOf}
 use Rattle.query_docs.specs.Definitions.{language_of, expression_others, next_query, queries_of, no_parts, with_title, is_declared, with_name, with_queries, next_part, declared_by, declared_in, stored_of, definition_others, definition_of}
+use Rattle.query_docs.specs.Texts.{stored_text}
+use Rattle.query_docs.specs.Reading.{rooted, or_bad, queries_in, text_queries}
+use Rattle.query_docs.specs.declared.fault.StoredTextFault.{StoredTextFault}
+use Rattle.query_docs.specs.declared.fault.StoredTextFault.TheVariants.{BadText, OutOfMemory as NoMemory}
 use Rattle.query_docs.specs.declared.query.Clauses.{Clauses}
 use Rattle.query_docs.specs.declared.definition.Parts.{Parts}
 use Rattle.request_terms.proofs.Named.{is_type}
@@ -48,16 +53,16 @@ use Rattle.query_docs.proofs.Within.{count_of, filter_within}
 
 -- ---- readings that did not fail
 
-or_fault_ok : {A : Type 0} (r : Option A) (fault : AskFault) (x : A) → or_fault r fault ≡ Ok x → r ≡ Some x
+pub or_fault_ok : {A : Type 0} (r : Option A) (fault : AskFault) (x : A) → or_fault r fault ≡ Ok x → r ≡ Some x
 or_fault_ok None fault x h = absurd cc
 or_fault_ok (Some y) fault x h = ap Some (ok_is AskFault y x h)
 
-unless_ok : (b : Bool) (fault : AskFault) (u : Unit {0}) → unless b fault ≡ Ok u → b ≡ false
+pub unless_ok : (b : Bool) (fault : AskFault) (u : Unit {0}) → unless b fault ≡ Ok u → b ≡ false
 unfolding unless
 unless_ok true fault u h = absurd cc
 unless_ok false fault u h = refl
 
-refusal_ok : (r : Result Filter FilterDocFault) (f : Filter) → or_refusal r ≡ Ok f → r ≡ Ok f
+pub refusal_ok : (r : Result Filter FilterDocFault) (f : Filter) → or_refusal r ≡ Ok f → r ≡ Ok f
 refusal_ok (Ok g) f h = ap Ok (ok_is AskFault g f h)
 refusal_ok (Err fault) f h = absurd cc
 
@@ -408,6 +413,19 @@ module _ (names : List (List ℕ)) (schema : Schema) where
       subst (λ ns. IsParts ns q) (append_assoc declared (declared_by e) (declared_in es) ∙ ap (λ ns. declared ++ ns) (sym (flat_map-cons declared_by e es)))
       (parts_good es (declared ++ declared_by e) x.0 q (part_good declared p x.0 e good x.1) x.2)
 
+or_bad_ok : {A E : Type 0} (r : Result A E) (x : A) → or_bad r ≡ Ok x → r ≡ Ok x
+or_bad_ok (Ok y) x h = ap Ok (ok_is StoredTextFault y x h)
+or_bad_ok (Err fault) x h = absurd cc
+
+read_text_is : (schema : Schema) (names : List (List ℕ)) (text : List ℕ) (queries : List Query) → text_queries schema names text ≡ Ok queries → All (IsQueryOf schema (length names)) queries
+unfolding text_queries queries_in
+read_text_is schema names text queries h =
+    let found = bind_ok (queries_in schema names text) (λ found. if bytes_eq (stored_text schema names found) text then Ok found else Err BadText) queries h in
+    let same = if_ok (bytes_eq (stored_text schema names found.0) text) (Ok found.0) BadText queries found.2 in
+    let root = bind_ok (or_bad (document (rooted text))) _ found.0 found.1 in
+    let all = or_bad_ok (each (next_query names schema) [] (children_of root.0)) found.0 root.2 in
+    subst (All (IsQueryOf schema (length names))) (ok_is StoredTextFault found.0 queries same.1) (queries_are names schema (children_of root.0) [] found.0 (All-nil (IsQueryOf schema (length names))) all)
+
 read_definition_is : (schema : Schema) (e : Element) (stored : StoredQuery) → definition_of schema e ≡ Ok stored → IsStoredOf schema stored
 unfolding definition_of
 read_definition_is schema e stored h =
@@ -426,6 +444,25 @@ read_definition_is schema e stored h =
       names = good.named;
       different = good.different;
     })
+
+-- the names of its parameters are those that it declares
+pub definition_names : (schema : Schema) (e : Element) (stored : StoredQuery) → definition_of schema e ≡ Ok stored → stored.parameters ≡ declared_in (children_of e)
+unfolding definition_of
+definition_names schema e stored h =
+    let is = bind_ok (unless (not (is_wfs (codes "StoredQueryDefinition") e)) (misplaced e)) _ stored h in
+    let id = bind_ok (required_of (codes "id") (said_at e)) _ stored is.2 in
+    let none = bind_ok (definition_others e) _ stored id.2 in
+    let parts = bind_ok (each (next_part (declared_in (children_of e)) schema) no_parts (children_of e)) _ stored none.2 in
+    let queries = bind_ok (or_fault parts.0.queries (misplaced e)) _ stored parts.2 in
+    let names : List (List ℕ) = declared_in (children_of e) in
+    let start : IsParts names schema [] no_parts = record { are = refl; named = All-nil (λ (name : List ℕ). 0 < length name); different = none_apart; queries = tt } in
+    let good = parts_good names schema (children_of e) [] no_parts parts.0 start parts.1 in
+    ap (λ (s : StoredQuery). s.parameters) (sym (ok_is AskFault (stored_of schema id.0 parts.0 queries.0) stored queries.2)) ∙ good.are
+
+-- the queries of a text that stands for some
+pub text_is : (schema : Schema) (names : List (List ℕ)) (text : List ℕ) (r : Result (List Query) StoredTextFault) → GivesBut NoMemory (λ x. x) r (text_queries schema names text) → IfOk r (λ queries. All (IsQueryOf schema (length names)) queries)
+text_is schema names text (Ok queries) h = read_text_is schema names text queries h
+text_is schema names text (Err fault) h = tt
 
 pub definition_is : (schema : Schema) (e : Element) (r : Result StoredQuery AskFault) → GivesBut OutOfMemory (λ x. x) r (definition_of schema e) → IfOk r (λ stored. IsStoredOf schema stored)
 definition_is schema e (Ok stored) h = read_definition_is schema e stored h

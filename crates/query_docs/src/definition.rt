@@ -2,9 +2,12 @@
 
 ghost use Rattle.std.specs.Prelude.{◌≡◌, [], ◌∷◌, ◌++◌, OnOk, IfOk, map, unwrap_or};
 ghost use Rattle.wfs_ends.specs.Read.{GivesBut, each};
+ghost use Rattle.doc_laws.specs.InDocument.{IsInDocument};
+ghost use Rattle.feature_schema.specs.Rules.{KeepsRules};
 ghost use Rattle.wfs_model.specs.OfSchema.{IsStoredOf};
 ghost use Rattle.query_docs.specs.Definitions.{is_language, language_of, expression_others, next_query, queries_of, no_parts, with_title, is_declared, with_name, with_queries, next_part, declared_by, declared_in, definition_others, definition_of};
 ghost use Rattle.query_docs.specs.Texts.{stored_text};
+ghost use Rattle.query_docs.specs.Reading.{IsKeptText};
 
 use crate::asked::name_of;
 use crate::elements::{no_children, text_alone};
@@ -346,7 +349,7 @@ fn definition_of(alloc: Global, element: &Element, schema: &Schema) -> Result<St
 ///   are not judged, and with one Query or more. In their filters a literal or a `rid` that is `${name}` stands for the parameter of
 ///   just this name, wherever that is declared; a name that is not declared is row 10 with the name.
 ///
-/// The text is the one that `text_of` writes for the queries. `OutOfMemory`: there is no memory for the stored query, or for the
+/// The text is the one that `text_of` writes for the queries, and `read_text` reads it back as them. `OutOfMemory`: there is no memory for the stored query, or for the
 /// name that a refusal points at.
 pub fn read_definition(
     alloc: Global,
@@ -355,6 +358,8 @@ pub fn read_definition(
 ) -> Result<StoredQuery, AskFault>
     ensures gives { GivesBut AskFault.OutOfMemory (λ x. x) result (definition_of schema.now element.now) }
     ensures of_schema { IfOk result (λ stored. IsStoredOf schema.now stored) }
+    // The text reads back, where the schema is one of a schema file, and the element one of a document.
+    ensures kept { KeepsRules schema.now → IsInDocument element.now → IfOk result (IsKeptText schema.now) }
 {
     definition_of(alloc, element, schema)
 }

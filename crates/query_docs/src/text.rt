@@ -1,10 +1,11 @@
 //! The text that a stored query keeps of its queries: how it is written, and how it is read back.
 
-ghost use Rattle.std.specs.Prelude.{◌≡◌, [], length, map, flat_map, IfOk, string_bytes};
+ghost use Rattle.std.specs.Prelude.{◌≡◌, [], length, map, flat_map, All, IfOk, string_bytes};
 ghost use Rattle.wfs_ends.specs.Ends.{Writes, capped};
 ghost use Rattle.wfs_ends.specs.Read.{GivesBut, each};
 ghost use Rattle.doc_tree.specs.Tree.{document_text};
 ghost use Rattle.doc_read.specs.Document.{document};
+ghost use Rattle.wfs_model.specs.OfSchema.{IsQueryOf};
 ghost use Rattle.query_docs.specs.Definitions.{next_query};
 ghost use Rattle.query_docs.specs.Texts.{stored_text};
 ghost use Rattle.query_docs.specs.Reading.{rooted, or_bad, queries_in, text_queries};
@@ -168,16 +169,17 @@ fn text_queries(
 
 /// Reads the queries of a stored text, whose parameters have these names: those that `text_of` writes as this text, byte for byte.
 ///
-/// The text is read as a list of Query elements, each as `read_definition` reads it, and then written again. `BadText`: it is no
-/// list of such elements, or is not what `text_of` writes for them over this schema and these parameters. `OutOfMemory`: there is no
-/// memory for the queries, or for the text that is compared.
+/// The text is read as a list of Query elements, each as `read_definition` reads it, and then written again. What is read is of the
+/// schema, with parameters of these names. `BadText`: it is no list of such elements, or is not what `text_of` writes for them over
+/// this schema and these parameters. `OutOfMemory`: there is no memory for the queries, or for the text that is compared.
 pub fn read_text(
     alloc: Global,
     text: &Text,
     parameters: &List<Text>,
     schema: &Schema,
 ) -> Result<List<Query>, StoredTextFault>
-    ensures { GivesBut NoMemory (λ x. x) result (text_queries schema.now parameters.now text.now) }
+    ensures gives { GivesBut NoMemory (λ x. x) result (text_queries schema.now parameters.now text.now) }
+    ensures of_schema { IfOk result (λ queries. All (IsQueryOf schema.now (length parameters.now)) queries) }
 {
     text_queries(alloc, parameters, schema, text)
 }

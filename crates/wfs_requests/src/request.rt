@@ -1,8 +1,11 @@
 //! The request of a document, by its root.
 
-ghost use Rattle.std.specs.Prelude.{◌≡◌, IfOk};
+ghost use Rattle.std.specs.Prelude.{◌≡◌, All, IfOk};
 ghost use Rattle.wfs_ends.specs.Read.{GivesBut};
-ghost use Rattle.wfs_model.specs.OfSchema.{IsOfSchema};
+ghost use Rattle.doc_laws.specs.InDocument.{IsInDocument};
+ghost use Rattle.feature_schema.specs.Rules.{KeepsRules};
+ghost use Rattle.wfs_model.specs.OfSchema.{stored_in, IsOfSchema};
+ghost use Rattle.query_docs.specs.Reading.{IsKeptText};
 ghost use Rattle.wfs_requests.specs.Requests.{root_of, request_by, request_of};
 
 use crate::capabilities::capabilities_of;
@@ -112,12 +115,15 @@ fn request_of(alloc: Global, root: &Element, schema: &Schema) -> Result<Request,
 /// row 14 with its name.
 ///
 /// A request that was read is one that the schema allows (`of_schema`): types, properties and values are the schema's, and filters
-/// such as their types allow. Features have the number 0. Texts are shared with the tree. `OutOfMemory`: there is no memory for the
-/// request, or for the name that a refusal points at.
-#[tactic(auto, using(crate::proofs::Allowed::request_is))]
+/// such as their types allow. Features have the number 0. The text that a stored query keeps reads back as its queries, by
+/// `query_docs::read_text` (`kept`). Texts are shared with the tree. `OutOfMemory`: there is no memory for the request, or for the
+/// name that a refusal points at.
+#[tactic(auto, using(crate::proofs::Allowed::request_is, crate::proofs::Kept::request_kept))]
 pub fn read_request(alloc: Global, root: &Element, schema: &Schema) -> Result<Request, AskFault>
     ensures gives { GivesBut AskFault.OutOfMemory (λ request. request) result (request_of root.now schema.now) }
     ensures of_schema { IfOk result (λ request. IsOfSchema schema.now request) }
+    // The texts of stored queries read back, where the schema is one of a schema file, and the root one of a document.
+    ensures kept { KeepsRules schema.now → IsInDocument root.now → IfOk result (λ request. All (IsKeptText schema.now) (stored_in request)) }
 {
     request_of(alloc, root, schema)
 }
