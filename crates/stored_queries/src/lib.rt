@@ -25,7 +25,7 @@ pub use expanding::{Meant, expand, expand_all, expand_one};
 pub use paging::{link_to, next_page, page, previous_page};
 pub use refusing::refusal_of;
 pub use selecting::{all_selected, select_asked};
-pub use stored::Stored;
+pub use stored::{Stored, first_known, is_there};
 
 #[cfg(test)]
 mod tests;

@@ -58,7 +58,8 @@ pub(crate) fn stored_at<'a>(stored: &'a [StoredQuery], id: &str) -> Option<&'a S
     stored.iter().find(|query| query.id.as_str() == id)
 }
 
-fn is_there(stored: &[StoredQuery], id: &str) -> bool
+/// Whether there is a stored query with an identifier. The built-in one is not meant.
+pub fn is_there(stored: &[StoredQuery], id: &str) -> bool
     ensures { result ≡ is_there stored.now id.now }
 {
     stored.iter().any(|query| query.id.as_str() == id)
@@ -79,9 +80,9 @@ fn is_taken(stored: &[StoredQuery], before: &[StoredQuery], id: &str) -> bool
     is_known(stored, id) || is_there(before, id)
 }
 
-/// The first of new stored queries whose identifier is known: built in, there, or that of one before it.
+/// The first of new stored queries whose identifier is known: built in, there, or that of one before it. `None`: they may be made.
 #[tactic(auto, using(crate::proofs::Created::none_judged, crate::proofs::Created::is_refused, crate::proofs::Created::goes_on, crate::proofs::Created::all_new))]
-fn first_known(stored: &[StoredQuery], definitions: &[StoredQuery]) -> Option<usize>
+pub fn first_known(stored: &[StoredQuery], definitions: &[StoredQuery]) -> Option<usize>
     ensures { IsFirstKnown stored.now definitions.now result }
 {
     for i in 0..definitions.len() {

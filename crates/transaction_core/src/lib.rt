@@ -15,6 +15,8 @@ mod selecting;
 mod tally;
 
 pub use fault::PlanFault;
+pub use naming::number_by;
+pub use permitting::rid_text;
 pub use planned::Planned;
 pub use planning::plan;
 

@@ -11,9 +11,9 @@ use crate::refusing::refused;
 use lock_table::{LockId, LockStatus, LockTable};
 use std::alloc::Global;
 
-// The number of a lock that is live.
+/// The number of a lock that is live (OGC 09-025r2, section 15.2.3.1.2).
 #[tactic(auto, using(crate::proofs::Refused::as_refused))]
-fn number_by(alloc: Global, id: LockId, status: LockStatus) -> Result<u64, PlanFault>
+pub fn number_by(alloc: Global, id: LockId, status: LockStatus) -> Result<u64, PlanFault>
     ensures { Answers result (number_by id status) }
 {
     match status {

@@ -54,9 +54,9 @@ fn push_name(text: &mut String, of_type: Option<&FeatureType>) -> Mem<()>
     }
 }
 
-// The identifier of a feature as text: its type's name, a dot and its number.
+/// The identifier of a feature as text: its type's name, a dot and its number.
 #[tactic(auto, unfolding(wfs_model::specs::Refusals::rid_text))]
-fn rid_text(alloc: Global, schema: &Schema, id: Rid) -> Mem<Text>
+pub fn rid_text(alloc: Global, schema: &Schema, id: Rid) -> Mem<Text>
     ensures { IfOk result (λ text. text ≡ rid_text schema.now id) }
 {
     let mut text = String::new(alloc);
