@@ -17,7 +17,7 @@ use Rattle.doc_laws.proofs.Canonical.{Canon}
 use Rattle.doc_laws.proofs.Nodes.{more, nothing, beside, alone}
 use Rattle.geom_core.specs.declared.geometry.Geometry.{Geometry}
 use Rattle.gml_docs.specs.Written.{gml_name}
-use Rattle.gml_docs.specs.RoundTrip.{IsGeometry}
+use Rattle.geom_core.specs.Valid.{IsGeometry}
 use Rattle.feature_values.specs.declared.schema.Schema.{Schema}
 use Rattle.feature_schema.specs.Rules.{KeepsRules}
 use Rattle.fes_filter.specs.Check.{most_operators}

@@ -19,7 +19,7 @@ use Rattle.geom_core.specs.Plane.{Bounds}
 use Rattle.geom_core.specs.declared.geometry.Geometry.{Geometry}
 use Rattle.gml_docs.specs.Elements.{geometry_of, envelope_of}
 use Rattle.gml_docs.specs.Written.{gml_name, plain_name}
-use Rattle.gml_docs.specs.RoundTrip.{IsGeometry}
+use Rattle.geom_core.specs.Valid.{IsGeometry}
 use Rattle.feature_values.specs.declared.schema.ValueKind.{ValueKind}
 use Rattle.feature_values.specs.declared.schema.FeatureType.{FeatureType}
 use Rattle.feature_values.specs.declared.schema.Schema.{Schema}

@@ -17,7 +17,7 @@ use Rattle.gml_docs.specs.declared.fault.GmlFault.{GmlFault}
 use Rattle.gml_docs.specs.declared.fault.GmlFault.TheVariants.{Kind}
 use Rattle.gml_docs.specs.Numbers.{shaped, located, point_of, points_of, only_located, placed, positions_of, position_in, words}
 use Rattle.gml_docs.specs.Elements.{is_gml, fitted, entered, no_more, position_at, list_at, next_position, several, path_of, only_position, point_at, line_at, ring_at, only_ring, side_at, next_hole, area_of, polygon_at, geometry_of}
-use Rattle.gml_docs.specs.RoundTrip.{IsRingOf, IsAreaOf, IsGeometry}
+use Rattle.geom_core.specs.Valid.{IsRingOf, IsAreaOf, IsGeometry}
 
 pub shaped_is : {A : Type 0} (r : Result A GeomFault) (x : A) → shaped r ≡ Ok x → r ≡ Ok x
 shaped_is (Ok y) x e = ap Ok (ok_is GmlFault y x e)
@@ -205,7 +205,7 @@ module _ (srs : List (List ℕ)) where
           let ps = bind_ok (path_of srs (out-Element e).children) _ g fits.2 in
           let line = bind_ok (shaped (line_of ps.0)) _ g ps.2 in
           let is = line_is ps.0 line.0 (shaped_is (line_of ps.0) line.0 line.1) in
-          subst IsGeometry (ok_is GmlFault (Along line.0) g line.2) (is.0, subst (All IsPosition) is.1 (path_positions (out-Element e).children ps.0 ps.1))
+          subst IsGeometry (ok_is GmlFault (Along line.0) g line.2) (record { line = is.0; positions = subst (All IsPosition) is.1 (path_positions (out-Element e).children ps.0 ps.1) })
       | inr l ↦ elim (chosen (is_gml (codes "Polygon") e) _ _ (Ok g) l.1) [
         | inl m ↦
             let fits = bind_ok (fitted srs e) _ g m.1 in
