@@ -9,7 +9,7 @@ use Rattle.feature_values.specs.declared.feature.Rid.{Rid}
 use Rattle.grid_index.specs.declared.lists.Link.{Link}
 use Rattle.grid_index.specs.Near.{is_among, is_same}
 use Rattle.grid_index.specs.Found.{Finds}
-use Rattle.grid_index.specs.Lists.{Place, Key, same_place, same_key, reaches, is_below, IsNext}
+use Rattle.grid_index.specs.Lists.{Place, Key, same_place, same_key, reaches, IsNext}
 use Rattle.grid_index.proofs.Meeting.{same_self}
 use Rattle.grid_index.proofs.Chains.{key_is, place_is, key_same, below_lt, lt_below}
 

@@ -2,7 +2,7 @@
 use Rattle.std.specs.Prelude.{◌≡◌, ℕ, zero, suc, ℤ, Bool, true, false, ◌&&◌, ◌||◌, not, cond, if◌then◌else◌, nat_eq, nat_lt, nat_le, min, Option, Some, None, is_some}
 use Rattle.std.specs.Ordering.{int_eq}
 use Rattle.std.specs.Option.{option_eq, option_map, option_and_then}
-use Rattle.std.specs.HashMap.{HashMap, get, spare}
+use Rattle.std.specs.HashMap.{get, spare}
 use Rattle.geom_core.specs.Plane.{Bounds}
 use Rattle.feature_values.specs.declared.feature.Rid.{Rid}
 use Rattle.grid_index.specs.declared.lists.Link.{Link}
