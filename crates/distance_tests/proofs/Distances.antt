@@ -51,10 +51,10 @@ and-more : (a b b' : Bool) → (b ≡ true → b' ≡ true) → (a && b) ≡ tru
 and-more true b b' f h = f h
 and-more false b b' f h = h
 
-or-more : (a b a' b' : Bool) → (a ≡ true → a' ≡ true) → (b ≡ true → b' ≡ true) → (a || b) ≡ true → (a' || b') ≡ true
+pub or-more : (a b a' b' : Bool) → (a ≡ true → a' ≡ true) → (b ≡ true → b' ≡ true) → (a || b) ≡ true → (a' || b') ≡ true
 or-more a b a' b' f g h = elim (either a b h) [ inl i ↦ or_left a' b' (f i) | inr i ↦ or_right a' b' (g i) ]
 
-any-more : (f g : Segment → Bool) → ((t : Segment) → f t ≡ true → g t ≡ true) → (ts : List Segment) → list_any f ts ≡ true → list_any g ts ≡ true
+pub any-more : (f g : Segment → Bool) → ((t : Segment) → f t ≡ true → g t ≡ true) → (ts : List Segment) → list_any f ts ≡ true → list_any g ts ≡ true
 any-more f g e [] h = h
 any-more f g e (t ∷ ts) h = or-more (f t) (list_any f ts) (g t) (list_any g ts) (e t) (any-more f g e ts) h
 

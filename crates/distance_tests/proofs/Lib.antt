@@ -1,2 +1,5 @@
+pub mod Feet
+pub mod Parted
 pub mod Products
 pub mod Distances
+pub mod Zero

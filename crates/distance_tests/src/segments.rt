@@ -5,14 +5,19 @@ ghost use Rattle.geom_core.specs.Rings.{edges, edges_from};
 ghost use Rattle.spatial_tests.specs.Sharing.{segments_of, segments_of_area};
 ghost use Rattle.distance_tests.specs.Within.{near_some, are_any_near};
 
+use crate::gaps::are_farther;
 use crate::near::are_near;
-use geom_core::{Geometry, Polygon, Pos, Ring};
+use geom_core::{Box2, Geometry, Polygon, Pos, Ring, bounds};
 
-/// Whether the segment from `a` to `b` is near a segment of the geometry.
+/// Whether the segment from `a` to `b` is near a segment of the geometry. Its bounds are compared with
+/// the geometry's first.
 fn is_near_geometry(a: Pos, b: Pos, other: &Geometry, d: u64) -> bool
     requires { d ≤ 4_000_000_000 }
     ensures { result ≡ near_some d (record { from = a; to = b }) (segments_of other.now) }
 {
+    if are_farther(&Box2::between(a, b), &bounds(other), d) {
+        return false;
+    }
     match other {
         Geometry::At(p) => are_near(a, b, *p, *p, d),
         Geometry::Along(line) => is_near_path(a, b, line.item().positions(), d),
