@@ -21,7 +21,7 @@ use Rattle.transaction_core.specs.Plan.{Answers}
 use Rattle.request_plans.specs.declared.plan.Plan.{Plan}
 use Rattle.request_plans.specs.Carried.{locks_after, given_after, IsDoable}
 use Rattle.request_plans.specs.Coming.{refused_plan, Comes, ComesTo}
-use Rattle.request_plans.specs.Plan.{carried, inserted_in, deleted_in, IsPlan}
+use Rattle.request_plans.specs.Plan.{carried, CanPlay, inserted_in, deleted_in, IsPlan}
 
 -- ---- the whole state
 
@@ -43,6 +43,7 @@ is_plan schema state moment request plan change kept comes =
     record {
       step = both (step schema state moment request) plan.reply (carried plan state moment) comes.reply its;
       change = comes.change;
+      playable = comes.playable;
       lock = comes.lock;
       features = ap (λ (s : State). length s.features + deleted_in plan.reply) its ∙ comes.features;
     }
@@ -51,14 +52,15 @@ is_plan schema state moment request plan change kept comes =
 
 -- what was done of a request that changes nothing of what outlives the process
 pub comes_done : (schema : Schema) (state : State) (moment : ℕ) (request : Request) (said : Result Done Refusal) (reply : Reply) (left : State) (plan : Plan)
-    → step schema state moment request ≡ settled state moment said → change_of schema state moment request ≡ plan.change → said ≡ Ok (reply, left) → plan.reply ≡ reply
+    → step schema state moment request ≡ settled state moment said → change_of schema state moment request ≡ plan.change → CanPlay state.stored plan.change → said ≡ Ok (reply, left) → plan.reply ≡ reply
     → locks_after plan.lock state.given moment state.locks ≡ left.locks → given_after plan.lock state.given ≡ left.given → IsDoable plan.lock state.given moment state.locks
     → length left.features + deleted_in plan.reply ≡ length state.features + inserted_in plan.reply → Comes schema state moment request plan
-comes_done schema state moment request said reply left plan is change done same locks given doable features =
+comes_done schema state moment request said reply left plan is change playable done same locks given doable features =
     let whole : step schema state moment request ≡ (reply, record left { last = moment }) = is ∙ ap (settled state moment) done in
     record {
       reply = same ∙ ap (λ (d : Done). d.0) (sym whole);
       change = sym change;
+      playable = playable;
       locks = locks ∙ ap (λ (d : Done). d.1.locks) (sym whole);
       given = given ∙ ap (λ (d : Done). d.1.given) (sym whole);
       lock = doable;
@@ -69,12 +71,13 @@ comes_done schema state moment request said reply left plan is change done same 
 
 pub comes_refused : (schema : Schema) (state : State) (moment : ℕ) (request : Request) (said : Result Done Refusal) (refusal : Refusal)
     → step schema state moment request ≡ settled state moment said → change_of schema state moment request ≡ None → said ≡ Err refusal → Comes schema state moment request (refused_plan refusal)
-unfolding locks_after given_after
+unfolding locks_after
 comes_refused schema state moment request said refusal is change refused =
     let whole : step schema state moment request ≡ settled state moment (Err refusal) = is ∙ ap (settled state moment) refused in
     record {
       reply = ap (λ (d : Done). d.0) (sym whole);
       change = sym change;
+      playable = tt;
       locks = ap (λ (d : Done). d.1.locks) (sym whole);
       given = ap (λ (d : Done). d.1.given) (sym whole);
       lock = tt;

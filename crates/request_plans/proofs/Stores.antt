@@ -22,19 +22,19 @@ use Rattle.transaction_core.specs.declared.fault.PlanFault.TheVariants.{Refused,
 use Rattle.transaction_core.specs.Plan.{IsRefusal}
 use Rattle.request_plans.specs.declared.plan.LockWork.TheVariants.{Nothing}
 use Rattle.request_plans.specs.declared.plan.Plan.{Plan}
-use Rattle.request_plans.specs.Carried.{locks_after, given_after}
+use Rattle.request_plans.specs.Carried.{locks_after}
 use Rattle.request_plans.specs.Coming.{Comes, ComesTo}
-use Rattle.request_plans.specs.Plan.{inserted_in, deleted_in}
+use Rattle.request_plans.specs.Plan.{CanPlay, inserted_in, deleted_in}
 use Rattle.request_plans.proofs.Leaving.{comes_done, comes_refused}
 
 -- a change of stored queries that may be made
 stored_comes : (schema : Schema) (state : State) (moment : ℕ) (request : Request) (reply : Reply) (change : Change) (r : Result (List StoredQuery) StoredFault) (stored : List StoredQuery) → inserted_in reply ≡ 0 → deleted_in reply ≡ 0
-    → step schema state moment request ≡ settled state moment (or_refused r >>= λ now. Ok (with_stored state reply now)) → change_of schema state moment request ≡ if_accepted r change → r ≡ Ok stored
+    → step schema state moment request ≡ settled state moment (or_refused r >>= λ now. Ok (with_stored state reply now)) → change_of schema state moment request ≡ if_accepted r change → CanPlay state.stored (Some change) → r ≡ Ok stored
     → Comes schema state moment request (record { reply = reply; change = Some change; lock = Nothing })
-unfolding locks_after given_after
-stored_comes schema state moment request reply change r stored none_in none_out is changes made =
+unfolding locks_after
+stored_comes schema state moment request reply change r stored none_in none_out is changes playable made =
     comes_done schema state moment request (or_refused r >>= λ now. Ok (with_stored state reply now)) reply (record state { stored = stored }) (record { reply = reply; change = Some change; lock = Nothing })
-    is (changes ∙ ap (λ x. if_accepted x change) made) (ap (λ x. or_refused x >>= λ now. Ok (with_stored state reply now)) made) refl refl refl tt (rw (none_in, none_out) refl)
+    is (changes ∙ ap (λ x. if_accepted x change) made) playable (ap (λ x. or_refused x >>= λ now. Ok (with_stored state reply now)) made) refl refl refl tt (rw (none_in, none_out) refl)
 
 -- one that may not
 stored_refused : (schema : Schema) (state : State) (moment : ℕ) (request : Request) (reply : Reply) (change : Change) (r : Result (List StoredQuery) StoredFault) (fault : StoredFault) (refuses : PlanFault)
@@ -47,7 +47,7 @@ stored_refused schema state moment request reply change r fault OutOfMemory is c
 
 pub creation_comes : (schema : Schema) (state : State) (moment : ℕ) (queries : List StoredQuery) → created state.stored queries ≡ Ok (state.stored ++ queries) → Comes schema state moment (CreateStored queries) (record { reply = Created; change = Some (NewQueries queries); lock = Nothing })
 unfolding step change_of
-creation_comes schema state moment queries made = stored_comes schema state moment (CreateStored queries) Created (NewQueries queries) (created state.stored queries) (state.stored ++ queries) refl refl refl refl made
+creation_comes schema state moment queries made = stored_comes schema state moment (CreateStored queries) Created (NewQueries queries) (created state.stored queries) (state.stored ++ queries) refl refl refl refl made made
 
 pub creation_refused : (schema : Schema) (state : State) (moment : ℕ) (queries : List StoredQuery) (fault : StoredFault) (refuses : PlanFault) → created state.stored queries ≡ Err fault → IsRefusal refuses (refusal_of fault)
     → (let s : Result Plan PlanFault = Err refuses in ComesTo schema state moment (CreateStored queries) s)
@@ -66,7 +66,7 @@ creation_refused_by schema state moment queries read i d id refuses same is know
 pub drop_comes : (schema : Schema) (state : State) (moment : ℕ) (id : List ℕ) → is_there state.stored id ≡ true → Comes schema state moment (DropStored id) (record { reply = Dropped; change = Some (Gone id); lock = Nothing })
 unfolding step change_of dropped
 drop_comes schema state moment id there =
-    stored_comes schema state moment (DropStored id) Dropped (Gone id) (if is_there state.stored id then Ok (without_query state.stored id) else Err (Unknown id)) (without_query state.stored id) refl refl refl refl (rw there refl)
+    stored_comes schema state moment (DropStored id) Dropped (Gone id) (if is_there state.stored id then Ok (without_query state.stored id) else Err (Unknown id)) (without_query state.stored id) refl refl refl refl (rw there refl) (rw there refl)
 
 pub drop_refused : (schema : Schema) (state : State) (moment : ℕ) (id : List ℕ) (refuses : PlanFault) → is_there state.stored id ≡ false → IsRefusal refuses (refusal_of (Unknown id))
     → (let s : Result Plan PlanFault = Err refuses in ComesTo schema state moment (DropStored id) s)

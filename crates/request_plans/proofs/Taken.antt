@@ -78,7 +78,7 @@ locks_at true state moment period taken is = rw is refl
 locks_at false state moment period taken is = rw is refl
 
 given_at : (b : Bool) (state : State) (moment period : ℕ) (taken : List Rid) → (length taken == 0) ≡ b → given_after (work_on taken period) state.given ≡ (locked state moment period taken).given
-unfolding given_after locked
+unfolding locked
 given_at true state moment period taken is = rw is refl
 given_at false state moment period taken is = rw is refl
 
@@ -116,7 +116,7 @@ lock_comes schema state moment asked take period ids division lock work selected
     let done : lock_taken schema state moment asked take period ≡ lock_done state moment period division =
     taken_by schema state moment asked take period ids selected ∙ ap (λ r. r >>= lock_done state moment period) takes.are in
     comes_done schema state moment (Lock asked take period) (lock_taken schema state moment asked take period) (Locked (lock_on state division.taken) division.taken division.missed) (locked state moment period division.taken)
-    (record { reply = Locked lock division.taken division.missed; change = None; lock = work }) refl refl done
+    (record { reply = Locked lock division.taken division.missed; change = None; lock = work }) refl refl tt done
     (ap (λ l. Locked l division.taken division.missed) takes.named)
     (ap (λ (w : LockWork). locks_after w state.given moment state.locks) takes.granted ∙ locks_at (length division.taken == 0) state moment period division.taken refl)
     (ap (λ (w : LockWork). given_after w state.given) takes.granted ∙ given_at (length division.taken == 0) state moment period division.taken refl)
@@ -152,7 +152,7 @@ page_comes schema state moment present asked take period ids division lock work 
     page_by schema state moment present asked take period ids selected ∙ ap (λ r. r >>= page_done state moment period ids) takes.are in
     comes_done schema state moment (GetLocked present asked take period) (page_locked schema state moment present asked take period)
     (Collection moment (length ids) (held state.features division.taken) (lock_on state division.taken) None None) (locked state moment period division.taken)
-    (record { reply = Collection moment matched features lock None None; change = None; lock = work }) refl refl done
+    (record { reply = Collection moment matched features lock None None; change = None; lock = work }) refl refl tt done
     (rw (takes.named, shown, counted) refl)
     (ap (λ (w : LockWork). locks_after w state.given moment state.locks) takes.granted ∙ locks_at (length division.taken == 0) state moment period division.taken refl)
     (ap (λ (w : LockWork). given_after w state.given) takes.granted ∙ given_at (length division.taken == 0) state moment period division.taken refl)
@@ -180,10 +180,10 @@ renewed_is state moment id period number is = rw is refl
 
 pub renewal_comes : (schema : Schema) (state : State) (moment : ℕ) (id : LockId) (period : Option ℕ) (number : ℕ) (taken none : List Rid) → named state moment id ≡ Ok number → taken ≡ features_of state.locks number → none ≡ []
     → Comes schema state moment (Renew id period) (record { reply = Locked (Some id) taken none; change = None; lock = NewDeadline number period })
-unfolding step change_of locks_after given_after
+unfolding step change_of locks_after
 renewal_comes schema state moment id period number taken none is features nothing =
     comes_done schema state moment (Renew id period) (lock_renewed state moment id period) (Locked (Some id) (features_of state.locks number) []) (record state { locks = renewed moment number period state.locks })
-    (record { reply = Locked (Some id) taken none; change = None; lock = NewDeadline number period }) refl refl (renewed_is state moment id period number is)
+    (record { reply = Locked (Some id) taken none; change = None; lock = NewDeadline number period }) refl refl tt (renewed_is state moment id period number is)
     (rw (features, nothing) refl) refl refl (named_is_live state moment id number is) refl
 
 pub not_named : (schema : Schema) (state : State) (moment : ℕ) (id : LockId) (period : Option ℕ) (fault : PlanFault)

@@ -1,5 +1,6 @@
 -- Transactions are planned as their steps are taken.
 use Rattle.std.proofs.Common.{◌≡◌, ℕ, ◌+◌, List, length, All, Option, Some, None, Result, Ok, Err, refl, sym, ap, ◌∙◌, subst}
+use Rattle.std.specs.Prelude.{◌==◌, Bool, true, false, if◌then◌else◌}
 use Rattle.wfs_ends.specs.Read.{◌>>=◌}
 use Rattle.feature_values.specs.declared.feature.Rid.{Rid}
 use Rattle.feature_values.specs.declared.schema.Schema.{Schema}
@@ -8,6 +9,10 @@ use Rattle.lock_table.specs.declared.words.Release.{Release}
 use Rattle.lock_table.specs.Lock.{Lock}
 use Rattle.wfs_model.specs.declared.action.Action.{Action}
 use Rattle.wfs_model.specs.declared.reply.Refusal.{Refusal}
+use Rattle.wfs_model.specs.declared.change.Change.{Change}
+use Rattle.wfs_model.specs.declared.change.Change.TheVariants.{Rows}
+use Rattle.wfs_model.specs.declared.change.Part.{Part}
+use Rattle.wfs_model.specs.declared.stored.StoredQuery.{StoredQuery}
 use Rattle.wfs_model.specs.declared.reply.Reply.{Reply}
 use Rattle.wfs_model.specs.declared.request.Request.{Request}
 use Rattle.wfs_model.specs.declared.request.Request.TheVariants.{Transact}
@@ -27,7 +32,7 @@ use Rattle.transaction_core.specs.Plan.{Answers, planned_by, if_planned, transac
 use Rattle.request_plans.specs.declared.plan.Plan.{Plan}
 use Rattle.request_plans.specs.Carried.{locks_after, given_after, IsDoable}
 use Rattle.request_plans.specs.Coming.{Comes, ComesTo}
-use Rattle.request_plans.specs.Plan.{inserted_in, deleted_in}
+use Rattle.request_plans.specs.Plan.{CanPlay, inserted_in, deleted_in}
 use Rattle.request_plans.specs.Transacted.{kept_of, release_of, carried_by}
 use Rattle.request_plans.proofs.Counts.{tally_is}
 use Rattle.request_plans.proofs.Leaving.{comes_done, comes_refused}
@@ -53,7 +58,6 @@ released_locks None release touched given moment locks = refl
 released_locks (Some id) release touched given moment locks = refl
 
 released_given : (lock : Option LockId) (release : Release) (touched : List Rid) (given : ℕ) → given_after (release_of lock release touched) given ≡ given
-unfolding given_after
 released_given None release touched given = refl
 released_given (Some id) release touched given = refl
 
@@ -66,6 +70,10 @@ released_doable schema state moment (Some id) release actions touched plan e =
     id_is_live state moment id two.0 two.1
 
 -- ---- transactions
+
+rows_play : (b : Bool) (stored : List StoredQuery) (parts : List Part) → CanPlay stored (if b then None else Some (Rows parts))
+rows_play true stored parts = tt
+rows_play false stored parts = tt
 
 tally : (schema : Schema) (state : State) (moment : ℕ) (lock : Option LockId) (actions : List Action) (plan : Planning) → IsKept schema (durable state) → All (IsActionOf schema) actions → plan_of schema state moment lock actions ≡ Ok plan
     → length plan.at.features + plan.at.deleted ≡ length state.features + length plan.at.inserted
@@ -84,6 +92,7 @@ comes schema state moment lock release actions planned kept fits e =
     comes_done schema state moment (Transact lock release actions) (plan_of schema state moment lock actions >>= λ p. Ok (carried_out state moment lock release p)) (transacted plan.at) (carried_out state moment lock release plan).1
     (carried_by lock release planned) refl
     (ap rows_if found.is ∙ ap (λ (p : Planned). kept_of p.change) found.told)
+    (subst (λ (c : Change). CanPlay state.stored (kept_of c)) (ap (λ (p : Planned). p.change) found.told) (rows_play (length plan.parts == 0) state.stored plan.parts))
     (ap (λ r. r >>= λ p. Ok (carried_out state moment lock release p)) found.is)
     (ap (λ (p : Planned). p.reply) (sym found.told))
     (released_locks lock release planned.touched state.given moment state.locks ∙ ap (λ (t : List Rid). unlocked state.locks moment lock t release) touched)

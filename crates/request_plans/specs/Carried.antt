@@ -1,5 +1,5 @@
 -- What work on locks leaves, and when it can be done.
-use Rattle.std.specs.Prelude.{◌≡◌, ℕ, ◌+◌, ◌<◌, ◌≤◌, ⊤, IsTrue, IfErr, List, length, All, None, Result, Ok, Err}
+use Rattle.std.specs.Prelude.{◌≡◌, ℕ, ◌+◌, ◌<◌, ◌≤◌, ⊤, IsTrue, IfErr, List, length, All, Option, Some, None, unwrap_or, Result, Ok, Err}
 use Rattle.feature_values.specs.declared.feature.Rid.{Rid}
 use Rattle.lock_table.specs.declared.words.LockFault.{LockFault}
 use Rattle.lock_table.specs.declared.words.LockFault.TheVariants.{Full, OutOfMemory}
@@ -18,10 +18,14 @@ locks_after (Grant features period) given moment locks = granted moment given fe
 locks_after (Renew number period) given moment locks = renewed moment number period locks
 locks_after (Release number touched how) given moment locks = released moment number touched how locks
 
+-- the number of the lock that work grants, where so many were granted before
+abbrev pub number_granted : LockWork → ℕ → Option ℕ
+number_granted (Grant features period) given = Some (given + 1)
+number_granted work given = None
+
 -- how many locks were granted then
-unfoldable pub given_after : LockWork → ℕ → ℕ
-given_after (Grant features period) given = given + 1
-given_after work given = given
+abbrev pub given_after : LockWork → ℕ → ℕ
+given_after work given = unwrap_or (number_granted work given) given
 
 -- ---- when it can be done
 

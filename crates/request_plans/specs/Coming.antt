@@ -14,7 +14,7 @@ use Rattle.request_plans.specs.declared.basis.Basis.{Basis}
 use Rattle.request_plans.specs.declared.plan.LockWork.TheVariants.{Nothing}
 use Rattle.request_plans.specs.declared.plan.Plan.{Plan}
 use Rattle.request_plans.specs.Carried.{locks_after, given_after, IsDoable}
-use Rattle.request_plans.specs.Plan.{state_in, inserted_in, deleted_in}
+use Rattle.request_plans.specs.Plan.{state_in, CanPlay, inserted_in, deleted_in}
 
 -- a request that is refused changes nothing
 abbrev pub refused_plan : Refusal → Plan
@@ -25,6 +25,7 @@ refused_plan refusal = record { reply = Refused refusal; change = None; lock = N
 pub record Comes (schema : Schema) (state : State) (moment : ℕ) (request : Request) (plan : Plan) : Type 0 where
   pub reply : plan.reply ≡ (step schema state moment request).0
   pub change : plan.change ≡ change_of schema state moment request
+  pub playable : CanPlay state.stored plan.change
   pub locks : locks_after plan.lock state.given moment state.locks ≡ (step schema state moment request).1.locks
   pub given : given_after plan.lock state.given ≡ (step schema state moment request).1.given
   pub lock : IsDoable plan.lock state.given moment state.locks

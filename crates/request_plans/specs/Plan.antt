@@ -1,8 +1,12 @@
 -- What a plan comes to: carried out, it leaves the state that the step leaves, and what is to be kept of it is its change.
-use Rattle.std.specs.Prelude.{◌≡◌, ℕ, ◌+◌, List, length}
+use Rattle.std.specs.Prelude.{◌≡◌, ℕ, ◌+◌, ⊤, List, ◌++◌, length, Option, Some, None, Ok}
 use Rattle.std.specs.Option.{option_to_list}
 use Rattle.feature_values.specs.declared.feature.Feature.{Feature}
 use Rattle.feature_values.specs.declared.schema.Schema.{Schema}
+use Rattle.wfs_model.specs.declared.change.Change.{Change}
+use Rattle.wfs_model.specs.declared.change.Change.TheVariants.{Rows, Created, Dropped}
+use Rattle.wfs_model.specs.declared.stored.StoredQuery.{StoredQuery}
+use Rattle.wfs_model.specs.Stored.{created, dropped, without_query}
 use Rattle.wfs_model.specs.declared.reply.Reply.{Reply}
 use Rattle.wfs_model.specs.declared.reply.Reply.TheVariants.{Transacted}
 use Rattle.wfs_model.specs.declared.request.Request.{Request}
@@ -39,6 +43,14 @@ carried plan state moment =
       last = moment;
     }
 
+-- stored queries that a change makes are new, and the one that it drops is there
+abbrev pub CanPlay : List StoredQuery → Option Change → Type 0
+CanPlay stored None = ⊤
+CanPlay stored (Some (Rows parts)) = ⊤
+CanPlay stored (Some (Created queries)) = created stored queries ≡ Ok (stored ++ queries)
+CanPlay stored (Some (Dropped id)) = dropped stored id ≡ Ok (without_query stored id)
+CanPlay stored (Some change) = ⊥
+
 -- how many features a reply tells as inserted, and as deleted
 abbrev pub inserted_in : Reply → ℕ
 inserted_in (Transacted deleted inserted updated replaced) = length inserted
@@ -54,6 +66,8 @@ pub record IsPlan (schema : Schema) (state : State) (moment : ℕ) (request : Re
   pub step : (plan.reply, carried plan state moment) ≡ step schema state moment request
   -- its change is the one that the request makes
   pub change : plan.change ≡ change_of schema state moment request
+  -- it can be played
+  pub playable : CanPlay state.stored plan.change
   -- its work on locks can be done
   pub lock : IsDoable plan.lock state.given moment state.locks
   -- as many features stand then as stood, with those that were inserted and without those that were deleted

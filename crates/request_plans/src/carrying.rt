@@ -2,7 +2,7 @@
 
 ghost use Rattle.std.specs.Prelude.{◌≡◌, ◌≤◌, OnOk, length};
 ghost use Rattle.lock_table.specs.Held.{live};
-ghost use Rattle.request_plans.specs.Carried.{locks_after, given_after, HasRoom, IsDoable, Reserves};
+ghost use Rattle.request_plans.specs.Carried.{locks_after, given_after, number_granted, HasRoom, IsDoable, Reserves};
 
 use crate::plan::LockWork;
 use lock_table::{LockFault, LockTable};
@@ -13,7 +13,6 @@ use lock_table::{LockFault, LockTable};
 /// # Errors
 ///
 /// `Full`, with the number of live locks, where a lock is to be granted and as many as `limit` or more are live, and `OutOfMemory`.
-#[tactic(auto, unfolding(crate::specs::Carried::locks_after, crate::specs::Carried::given_after))]
 pub fn reserve_locks(
     work: &LockWork,
     table: &mut LockTable,
@@ -33,27 +32,33 @@ pub fn reserve_locks(
     }
 }
 
-/// Does work on locks at a moment, for which there is room (`reserve_locks`). It takes no memory.
-#[tactic(auto, unfolding(crate::specs::Carried::locks_after, crate::specs::Carried::given_after))]
-pub fn carry_locks(work: LockWork, table: &mut LockTable, moment: u64)
+/// Does work on locks at a moment, for which there is room (`reserve_locks`), and answers the number of the lock that it grants. It takes no
+/// memory.
+#[tactic(auto, unfolding(crate::specs::Carried::locks_after))]
+pub fn carry_locks(work: LockWork, table: &mut LockTable, moment: u64) -> Option<u64>
     requires later { table.old.last ≤ moment }
     requires doable { IsDoable work table.old.given moment table.old.locks }
     requires room { HasRoom work table.old }
+    ensures number { result ≡ number_granted work table.old.given }
     ensures locks { table.new.locks ≡ locks_after work table.old.given moment table.old.locks }
     ensures opening { table.new.opening ≡ table.old.opening }
     ensures given { table.new.given ≡ given_after work table.old.given }
     ensures last { table.new.last ≤ moment }
 {
     match work {
-        LockWork::Nothing => (),
-        LockWork::Grant { features, period } => {
-            table.grant(features, moment, period);
+        LockWork::Nothing => None,
+        LockWork::Grant { features, period } => Some(table.grant(features, moment, period)),
+        LockWork::Renew { number, period } => {
+            table.renew(number, moment, period);
+            None
         }
-        LockWork::Renew { number, period } => table.renew(number, moment, period),
         LockWork::Release {
             number,
             touched,
             how,
-        } => table.release(number, &touched, how, moment),
+        } => {
+            table.release(number, &touched, how, moment);
+            None
+        }
     }
 }
