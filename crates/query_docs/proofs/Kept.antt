@@ -1,9 +1,8 @@
 -- The text that a definition keeps of its queries reads back as them.
-use Rattle.std.proofs.Common.{◌≡◌, ℕ, pred, ◌+◌, ◌<◌, ◌≤◌, Bool, true, false, not, ◌&&◌, cond, List, [], ◌∷◌, ◌++◌, length, map, Option, Some, None, Result, Ok, Err, refl, sym, ap, subst, ◌∙◌, append_assoc, inl, inr, arith}
+use Rattle.std.proofs.Common.{◌≡◌, ℕ, pred, ◌+◌, ◌<◌, ◌≤◌, Bool, true, false, not, cond, List, [], ◌∷◌, ◌++◌, length, map, Option, Some, None, Result, Ok, Err, refl, sym, ap, subst, ◌∙◌, append_assoc, inl, inr, arith}
 use Rattle.std.specs.Prelude.{codes, IfSome, IfOk, All, find, option_map, ◌==◌}
-use Rattle.std.specs.List.{list_all, flat_map}
+use Rattle.std.specs.List.{list_all}
 use Rattle.std.specs.Option.{is_some, option_to_list}
-use Rattle.std.specs.Str.{bytes_eq}
 use Rattle.std.proofs.lemmas.List.{append-nil}
 use Rattle.std.proofs.lemmas.List.Concat.{flat_map-cons}
 use Rattle.std.proofs.lemmas.List.Elements.{All-nil, All-cons, All-append}
@@ -14,14 +13,13 @@ use Rattle.doc_tree.specs.declared.tree.Attribute.{Attribute}
 use Rattle.doc_tree.specs.declared.tree.Element.{Element, out-Element}
 use Rattle.doc_tree.specs.declared.tree.Element.TheOpen.{Element-F}
 use Rattle.doc_tree.specs.declared.tree.Element.TheViews.{out-roll-Element}
-use Rattle.doc_tree.specs.Tree.{document_text}
-use Rattle.doc_attributes.specs.Names.{is_name, value_at}
+use Rattle.doc_attributes.specs.Names.{is_name}
 use Rattle.doc_read.specs.Document.{document}
 use Rattle.doc_read.specs.Element.{tree}
 use Rattle.doc_read.proofs.Again.{same_bytes}
 use Rattle.doc_read.proofs.Documents.{document_again}
 use Rattle.doc_read.proofs.Fronts.{both}
-use Rattle.doc_laws.specs.InDocument.{is_text, holds_texts, IsInDocument}
+use Rattle.doc_laws.specs.InDocument.{is_text, IsInDocument}
 use Rattle.doc_laws.proofs.Sizes.{Fits, FitAll, parts, split}
 use Rattle.doc_laws.proofs.Canonical.{CanonContent}
 use Rattle.doc_laws.proofs.Nodes.{content_more, nothing, beside}

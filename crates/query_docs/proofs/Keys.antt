@@ -1,12 +1,11 @@
 -- SortBy stands in a canonical text, no larger than what it was read from, and reads back.
-use Rattle.std.proofs.Common.{◌≡◌, ℕ, suc, pred, ◌+◌, ◌<◌, ◌≤◌, Bool, true, false, not, List, [], ◌∷◌, ◌++◌, length, map, Option, Some, None, Result, Ok, Err, refl, sym, ap, subst, ◌∙◌, append_assoc, inl, inr, arith}
+use Rattle.std.proofs.Common.{◌≡◌, ℕ, suc, pred, ◌+◌, ◌<◌, ◌≤◌, Bool, true, false, not, List, [], ◌∷◌, ◌++◌, length, map, Option, Some, None, Ok, Err, refl, sym, ap, subst, ◌∙◌, append_assoc, arith}
 use Rattle.std.specs.Prelude.{codes, if◌then◌else◌, ◌==◌}
 use Rattle.std.specs.List.{list_any}
-use Rattle.std.specs.Str.{bytes_eq}
 use Rattle.std.proofs.lemmas.List.{append-nil, length-map}
 use Rattle.wfs_ends.specs.Read.{each, unless}
-use Rattle.wfs_ends.proofs.Turns.{bind_ok, chosen, ok_is}
-use Rattle.doc_tree.specs.declared.tree.Element.{Element, out-Element}
+use Rattle.wfs_ends.proofs.Turns.{bind_ok, ok_is}
+use Rattle.doc_tree.specs.declared.tree.Element.{Element}
 use Rattle.doc_tree.specs.Tree.{prefixed}
 use Rattle.doc_laws.proofs.Sizes.{Fits, FitAll, parts, split, visible_meant}
 use Rattle.doc_laws.proofs.Canonical.{Canon, CanonContent}
@@ -19,18 +18,17 @@ use Rattle.feature_schema.specs.Rules.{KeepsRules}
 use Rattle.fes_filter.specs.Check.{type_in, property_in, is_shape}
 use Rattle.fes_filter.specs.declared.query.SortKey.{SortKey}
 use Rattle.fes_docs.specs.Names.{is_fes}
-use Rattle.fes_docs.specs.Written.{element, leaf, parent, reference, property_name}
-use Rattle.fes_docs.proofs.Built.{has_name, has_children, has_text, has_attributes, leaf_named, parent_named}
+use Rattle.fes_docs.specs.Written.{leaf, parent, reference, property_name}
+use Rattle.fes_docs.proofs.Built.{has_children, has_text, has_attributes, leaf_named, parent_named}
 use Rattle.fes_docs.proofs.Named.{property_again, is_reference}
 use Rattle.filter_laws.proofs.Literals.{AreTexts}
 use Rattle.filter_laws.proofs.Schemas.{can_be_written}
 use Rattle.filter_laws.proofs.Predicates.{group_stands, reference_stands, leaf_stands}
 use Rattle.wfs_model.specs.declared.fault.AskFault.{AskFault}
-use Rattle.request_terms.specs.Said.{or_fault}
-use Rattle.request_terms.specs.Elements.{no_others, none_other, misplaced, no_children, text_in}
+use Rattle.request_terms.specs.Elements.{no_others, misplaced, no_children, text_in}
 use Rattle.query_docs.specs.Elements.{children_of, text_alone}
 use Rattle.query_docs.specs.Sorting.{key_of, sortable, sorted_by, order_word, order_of, key_with, key_in, sort_key, next_key, keys_of}
-use Rattle.query_docs.specs.Texts.{order_trees, key_tree, sort_trees, query_prefixes}
+use Rattle.query_docs.specs.Texts.{order_trees, key_tree, query_prefixes}
 use Rattle.query_docs.proofs.Sound.{unless_ok}
 use Rattle.query_docs.proofs.Prefixes.{are_prefixes, fes_covered, gml_covered}
 

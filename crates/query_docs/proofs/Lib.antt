@@ -1,6 +1,7 @@
-pub mod Keys
 pub mod Kept
+pub mod Keys
 pub mod Makes
+pub mod Names
 pub mod Prefixes
 pub mod Queries
 pub mod Sound

@@ -1,5 +1,5 @@
 -- Requests that make no stored query.
-use Rattle.std.proofs.Common.{◌≡◌, List, [], Ok, sym, subst}
+use Rattle.std.proofs.Common.{◌≡◌, [], Ok, sym, subst}
 use Rattle.std.specs.Prelude.{All}
 use Rattle.std.proofs.lemmas.List.Elements.{All-nil}
 use Rattle.wfs_ends.specs.Read.{◌>>=◌}

@@ -1,5 +1,5 @@
 -- A Query stands in a canonical text, no larger than what it was read from, and reads back.
-use Rattle.std.proofs.Common.{◌≡◌, ℕ, suc, pred, ◌+◌, ◌<◌, ◌≤◌, Bool, true, false, not, ◌&&◌, ◌||◌, List, [], ◌∷◌, ◌++◌, length, map, drop, Option, Some, None, Result, Ok, Err, refl, sym, ap, subst, ◌∙◌, append_assoc, inl, inr, arith}
+use Rattle.std.proofs.Common.{◌≡◌, ℕ, suc, pred, ◌+◌, ◌<◌, ◌≤◌, Bool, true, false, not, ◌||◌, List, [], ◌∷◌, ◌++◌, map, Option, Some, None, Ok, refl, ap, subst, ◌∙◌, inl, inr, arith}
 use Rattle.std.specs.Prelude.{codes, IfSome}
 use Rattle.std.specs.List.{list_any, list_all, prefix_len}
 use Rattle.std.specs.Option.{is_some}
@@ -10,7 +10,6 @@ use Rattle.wfs_ends.specs.Ends.{joined}
 use Rattle.wfs_ends.specs.Read.{each, unless}
 use Rattle.wfs_ends.proofs.Turns.{bind_ok, chosen, ok_is}
 use Rattle.doc_tree.specs.declared.tree.QName.{QName}
-use Rattle.doc_tree.specs.declared.tree.Attribute.{Attribute}
 use Rattle.doc_tree.specs.declared.tree.Element.{Element, out-Element}
 use Rattle.doc_tree.specs.declared.tree.Element.TheOpen.{Element-F}
 use Rattle.doc_tree.specs.declared.tree.Element.TheViews.{out-roll-Element}
@@ -23,10 +22,9 @@ use Rattle.doc_read.specs.Chars.{holds}
 use Rattle.doc_read.specs.Scope.{has_twins}
 use Rattle.doc_read.specs.Element.{tree}
 use Rattle.doc_read.proofs.Fronts.{both}
-use Rattle.doc_laws.proofs.Facts.{Meant}
 use Rattle.doc_laws.proofs.Sizes.{no_text, Fits, FitAll, parts, split}
 use Rattle.doc_laws.proofs.Canonical.{Canon, CanonContent}
-use Rattle.doc_laws.proofs.Nodes.{IsTag, standing_node, more, content_more, nothing, beside, alone}
+use Rattle.doc_laws.proofs.Nodes.{IsTag, standing_node, content_more, nothing, beside, alone}
 use Rattle.gml_docs.specs.Numbers.{is_space}
 use Rattle.gml_docs.specs.Written.{plain_name}
 use Rattle.feature_values.specs.Ids.{type_named, without_prefix}
@@ -37,21 +35,18 @@ use Rattle.fes_filter.specs.Check.{type_in}
 use Rattle.fes_filter.specs.declared.filter.Filter.{Filter}
 use Rattle.fes_filter.specs.declared.query.Query.{Query}
 use Rattle.fes_filter.specs.declared.query.SortKey.{SortKey}
-use Rattle.fes_docs.specs.declared.fault.FilterDocFault.{FilterDocFault}
-use Rattle.fes_docs.specs.Names.{fes_space, is_fes}
+use Rattle.fes_docs.specs.Names.{is_fes}
 use Rattle.fes_docs.specs.Filters.{filter_of}
 use Rattle.fes_docs.specs.Written.{parent, attribute, type_name, filter_tree}
-use Rattle.fes_docs.specs.RoundTrip.{IsFilter}
 use Rattle.fes_docs.proofs.Built.{parent_name, parent_named}
 use Rattle.fes_docs.proofs.Named.{first_named, prefix_dropped}
 use Rattle.fes_docs.proofs.Whole.{filters_read_back}
 use Rattle.filter_laws.proofs.Literals.{AreTexts}
 use Rattle.filter_laws.proofs.Schemas.{prefix_name, type_is, type_named as type_meant, can_be_written}
 use Rattle.filter_laws.proofs.Texts.{schema_name}
-use Rattle.filter_laws.proofs.Operators.{Whole, filter_stands}
+use Rattle.filter_laws.proofs.Operators.{filter_stands}
 use Rattle.wfs_model.specs.declared.fault.AskFault.{AskFault}
-use Rattle.wfs_model.specs.Terms.{refused}
-use Rattle.request_terms.specs.Said.{or_fault, required_of, kind_of, passing}
+use Rattle.request_terms.specs.Said.{required_of, kind_of}
 use Rattle.request_terms.specs.Base.{srs_of}
 use Rattle.request_terms.specs.Elements.{said_at, wfs_space, is_wfs, no_others, misplaced}
 use Rattle.query_docs.specs.Elements.{children_of, not_offered, or_refusal}
@@ -61,7 +56,7 @@ use Rattle.query_docs.specs.Texts.{key_tree, sort_trees, filter_trees, query_tre
 use Rattle.query_docs.specs.declared.query.Clauses.{Clauses}
 use Rattle.query_docs.proofs.Sound.{or_fault_ok, refusal_ok}
 use Rattle.query_docs.proofs.Prefixes.{are_prefixes, wfs_covered, fes_covered, gml_covered}
-use Rattle.query_docs.proofs.Keys.{SortAgain, sort_again, unless_not}
+use Rattle.query_docs.proofs.Keys.{SortAgain, sort_again}
 
 -- ---- one word
 

@@ -2,9 +2,11 @@
 
 ghost use Rattle.std.specs.Prelude.{◌≡◌, [], ◌∷◌, ◌++◌, None, OnOk, IfOk, map};
 ghost use Rattle.wfs_ends.specs.Read.{GivesBut, each};
-ghost use Rattle.query_docs.specs.Asked.{name_of, is_given, next_given, use_others, use_of, plain_of, asked_of, IsAskedOf};
+ghost use Rattle.query_docs.specs.Seen.{HasGiven};
+ghost use Rattle.query_docs.specs.Asked.{name_of, next_given, use_others, use_of, plain_of, asked_of, IsAskedOf};
 
 use crate::query::query_of;
+use crate::seen::{Seen, none_seen, note};
 use doc_tree::Element;
 use feature_values::Schema;
 use request_terms::{Attributes, is_wfs, misplaced, no_others, required_of, text_in};
@@ -24,14 +26,6 @@ pub(crate) fn name_of(alloc: Global, element: &Element) -> Result<Text, AskFault
     Ok(name)
 }
 
-// Whether a parameter of just this name is given.
-#[tactic(auto, unfolding(crate::specs::Asked::is_given))]
-fn is_given(given: &[(Text, Text)], name: &str) -> bool
-    ensures { result ≡ is_given given.now name.now }
-{
-    given.iter().any(|g| g.0.as_str() == name)
-}
-
 fn push_given(given: &mut Vec<(Text, Text)>, name: Text, value: Text) -> Mem<()>
     ensures { OnOk result (given.new.items ≡ given.old.items ++ (name, value) ∷ []) }
 {
@@ -39,21 +33,24 @@ fn push_given(given: &mut Vec<(Text, Text)>, name: Text, value: Text) -> Mem<()>
     Ok(())
 }
 
-// One Parameter more.
+// One Parameter more. Its name is looked up in the set of those that came before.
 #[tactic(auto, unfolding(crate::specs::Asked::next_given, wfs_ends::specs::Read::unless))]
 fn add_given(
     alloc: Global,
+    seen: &mut Seen,
     given: &mut Vec<(Text, Text)>,
     element: &Element,
 ) -> Result<(), AskFault>
-    ensures { GivesBut AskFault.OutOfMemory (λ _. given.new.items) result (next_given given.old.items element.now) }
+    requires seen { HasGiven seen.old given.old.items }
+    ensures gives { GivesBut AskFault.OutOfMemory (λ _. given.new.items) result (next_given given.old.items element.now) }
+    ensures seen { OnOk result (HasGiven seen.new given.new.items) }
 {
     if !is_wfs(element, "Parameter") {
         return Err(misplaced(alloc, element));
     }
     let name = name_of(alloc, element)?;
     no_others(alloc, element, &["name"])?;
-    if is_given(given, name.as_str()) {
+    if !note(alloc, seen, name.as_str())? {
         return Err(misplaced(alloc, element));
     }
     let value = text_in(alloc, element)?.copy(alloc)?;
@@ -65,9 +62,10 @@ fn add_given(
 fn all_given(alloc: Global, elements: &[Element]) -> Result<Vec<(Text, Text)>, AskFault>
     ensures { GivesBut AskFault.OutOfMemory (λ v. v.items) result (each next_given [] elements.now) }
 {
+    let mut seen = none_seen(alloc);
     let mut given = Vec::new(alloc);
     for element in elements {
-        add_given(alloc, &mut given, element)?;
+        add_given(alloc, &mut seen, &mut given, element)?;
     }
     Ok(given)
 }

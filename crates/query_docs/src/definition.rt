@@ -5,13 +5,15 @@ ghost use Rattle.wfs_ends.specs.Read.{GivesBut, each};
 ghost use Rattle.doc_laws.specs.InDocument.{IsInDocument};
 ghost use Rattle.feature_schema.specs.Rules.{KeepsRules};
 ghost use Rattle.wfs_model.specs.OfSchema.{IsStoredOf};
-ghost use Rattle.query_docs.specs.Definitions.{is_language, language_of, expression_others, next_query, queries_of, no_parts, with_title, is_declared, with_name, with_queries, next_part, declared_by, declared_in, definition_others, definition_of};
+ghost use Rattle.query_docs.specs.Definitions.{is_language, language_of, expression_others, next_query, queries_of, no_parts, with_title, with_name, with_queries, next_part, declared_by, declared_in, definition_others, definition_of};
 ghost use Rattle.query_docs.specs.Texts.{stored_text};
 ghost use Rattle.query_docs.specs.Reading.{IsKeptText};
+ghost use Rattle.query_docs.specs.Seen.{HasDeclared};
 
 use crate::asked::name_of;
 use crate::elements::{no_children, text_alone};
 use crate::query::query_of;
+use crate::seen::{Seen, none_seen, note_without_case};
 use crate::text::text_of;
 use doc_tree::Element;
 use feature_values::Schema;
@@ -130,7 +132,8 @@ fn queries_of(
 // A Title, of which there is one.
 #[tactic(auto, unfolding(crate::specs::Definitions::with_title, wfs_ends::specs::Read::unless))]
 fn with_title(alloc: Global, found: Parts, element: &Element) -> Result<Parts, AskFault>
-    ensures { GivesBut AskFault.OutOfMemory (λ x. x) result (with_title found element.now) }
+    ensures gives { GivesBut AskFault.OutOfMemory (λ x. x) result (with_title found element.now) }
+    ensures names { IfOk result (λ parts. parts.names ≡ found.names) }
 {
     if found.title.is_some() {
         return Err(misplaced(alloc, element));
@@ -143,14 +146,6 @@ fn with_title(alloc: Global, found: Parts, element: &Element) -> Result<Parts, A
     })
 }
 
-// Whether a name is declared, in any case.
-#[tactic(auto, unfolding(crate::specs::Definitions::is_declared))]
-fn is_declared(names: &[Text], name: &str) -> bool
-    ensures { result ≡ is_declared names.now name.now }
-{
-    names.iter().any(|n| n.as_str().eq_ignore_ascii_case(name))
-}
-
 fn with_last(names: List<Text>, name: Text) -> Mem<List<Text>>
     ensures { IfOk result (λ all. all ≡ names ++ name ∷ []) }
 {
@@ -159,14 +154,21 @@ fn with_last(names: List<Text>, name: Text) -> Mem<List<Text>>
     Ok(List::of(all))
 }
 
-// A Parameter.
+// A Parameter. Its name is looked up in the set of those that came before.
 #[tactic(auto, unfolding(crate::specs::Definitions::with_name, wfs_ends::specs::Read::unless))]
-fn with_name(alloc: Global, found: Parts, element: &Element) -> Result<Parts, AskFault>
-    ensures { GivesBut AskFault.OutOfMemory (λ x. x) result (with_name found element.now) }
+fn with_name(
+    alloc: Global,
+    seen: &mut Seen,
+    found: Parts,
+    element: &Element,
+) -> Result<Parts, AskFault>
+    requires seen { HasDeclared seen.old found.names }
+    ensures gives { GivesBut AskFault.OutOfMemory (λ x. x) result (with_name found element.now) }
+    ensures seen { IfOk result (λ parts. HasDeclared seen.new parts.names) }
 {
     let name = name_of(alloc, element)?;
     no_others(alloc, element, &["name", "type"])?;
-    if is_declared(found.names.items(), name.as_str()) {
+    if !note_without_case(alloc, seen, name.as_str())? {
         return Err(refused(alloc, 22, name.as_str()));
     }
     no_children(alloc, element.children.items())?;
@@ -186,7 +188,8 @@ fn with_queries(
     found: Parts,
     element: &Element,
 ) -> Result<Parts, AskFault>
-    ensures { GivesBut AskFault.OutOfMemory (λ x. x) result (with_queries names.now schema.now found element.now) }
+    ensures gives { GivesBut AskFault.OutOfMemory (λ x. x) result (with_queries names.now schema.now found element.now) }
+    ensures names { IfOk result (λ parts. parts.names ≡ found.names) }
 {
     if found.queries.is_some() {
         return Err(misplaced(alloc, element));
@@ -205,10 +208,13 @@ fn next_part(
     alloc: Global,
     names: &List<Text>,
     schema: &Schema,
+    seen: &mut Seen,
     found: Parts,
     element: &Element,
 ) -> Result<Parts, AskFault>
-    ensures { GivesBut AskFault.OutOfMemory (λ x. x) result (next_part names.now schema.now found element.now) }
+    requires seen { HasDeclared seen.old found.names }
+    ensures gives { GivesBut AskFault.OutOfMemory (λ x. x) result (next_part names.now schema.now found element.now) }
+    ensures seen { IfOk result (λ parts. HasDeclared seen.new parts.names) }
 {
     if is_wfs(element, "Title") {
         return with_title(alloc, found, element);
@@ -217,7 +223,7 @@ fn next_part(
         return Ok(found);
     }
     if is_wfs(element, "Parameter") {
-        return with_name(alloc, found, element);
+        return with_name(alloc, seen, found, element);
     }
     if is_wfs(element, "QueryExpressionText") {
         return with_queries(alloc, names, schema, found, element);
@@ -234,13 +240,14 @@ fn all_parts(
 ) -> Result<Parts, AskFault>
     ensures { GivesBut AskFault.OutOfMemory (λ x. x) result (each (next_part names.now schema.now) no_parts elements.now) }
 {
+    let mut seen = none_seen(alloc);
     let mut found = Parts {
         title: None,
         names: List::of(Vec::new(alloc)),
         queries: None,
     };
     for element in elements {
-        found = next_part(alloc, names, schema, found, element)?;
+        found = next_part(alloc, names, schema, &mut seen, found, element)?;
     }
     Ok(found)
 }

@@ -7,6 +7,7 @@ mod definition;
 mod elements;
 mod fault;
 mod query;
+mod seen;
 mod sorting;
 mod text;
 mod trees;
