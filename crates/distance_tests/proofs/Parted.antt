@@ -1,14 +1,14 @@
 -- Geometries whose bounds lie farther apart than a distance do not lie within it.
-use Rattle.std.proofs.Common.{◌≡◌, ℕ, ◌+◌, ◌-◌, ◌*◌, ◌<◌, ◌≤◌, ℤ, pos, negsuc, ◌+ℤ◌, ◌-ℤ◌, ◌*ℤ◌, ◌≤ℤ◌, ◌<ℤ◌, unsigned_abs, Bool, true, false, ◌&&◌, ◌||◌, int_le, int_lt, List, [], ◌∷◌, ◌⊎◌, inl, inr, ⊎_elim, refl, sym, ap, subst, ◌∙◌, arith, to_z, of_z, w64, nat_lt}
-use Rattle.std.proofs.lemmas.Int.{ints, clamps, unsigned_abs-mul}
+use Rattle.std.proofs.Common.{◌≡◌, ℕ, ◌+◌, ◌-◌, ◌*◌, ◌<◌, ◌≤◌, ℤ, pos, negsuc, ◌+ℤ◌, ◌-ℤ◌, ◌*ℤ◌, ◌≤ℤ◌, ◌<ℤ◌, unsigned_abs, Bool, true, false, ◌&&◌, ◌||◌, int_le, int_lt, List, [], ◌∷◌, ◌⊎◌, inl, inr, ⊎_elim, refl, sym, ap, subst, ◌∙◌, arith, to_z, of_z, w32, w64, nat_lt}
+use Rattle.std.proofs.lemmas.Int.{ints, clamps, unsigned_abs-mul, to_z-of_z, fits_signed_from_abs}
 use Rattle.std.proofs.lemmas.Nat.{mul-le, mul-lt}
 use Rattle.std.proofs.lemmas.Bool.{ltb-true, le-ltb, lt-ltb, false≢true, cases_Bool}
 use Rattle.std.proofs.Math.Nat.{le_of_mul-le-mul_left}
 use Rattle.std.proofs.lemmas.List.Elements.{recursion_from_All}
 use Rattle.std.specs.Prelude.{zero, suc}
-use Rattle.std.specs.Int.{int_max}
+use Rattle.std.specs.Int.{int_min, int_max}
 use Rattle.std.specs.List.{AllByRecursion}
-use Rattle.geom_core.specs.Plane.{Point, Bounds, IsInBox, are_apart}
+use Rattle.geom_core.specs.Plane.{Point, Bounds, IsCoordinate, IsInBox, are_apart}
 use Rattle.geom_core.specs.Segments.{Segment}
 use Rattle.geom_core.specs.Extents.{IsLeastBox, positions_of, is_covered}
 use Rattle.geom_core.specs.declared.geometry.Geometry.{Geometry}
@@ -18,7 +18,8 @@ use Rattle.geom_core.proofs.Meeting.{box_of_segment, IsInBox-from, IsInBox-to, W
 use Rattle.spatial_tests.specs.Sharing.{segments_of, do_intersect}
 use Rattle.spatial_tests.proofs.Apart.{IsSpanned, segments-in, apart-no_share}
 use Rattle.distance_tests.specs.Within.{way, dot, cross, are_close, is_before, is_behind, is_abreast, is_line_close, is_near, are_near, near_some, are_any_near, is_within_distance}
-use Rattle.distance_tests.specs.Gaps.{gap, gap_x, gap_y, are_farther}
+use Rattle.distance_tests.specs.declared.gaps.Reach.{Reach}
+use Rattle.distance_tests.specs.Gaps.{gap, gap_x, gap_y, are_farther, reach_of, is_beyond}
 use Rattle.distance_tests.proofs.Feet.{foot_x, foot_y, up_is, square_is, dot_self, le_test, lt_test}
 use Rattle.distance_tests.proofs.Products.{passed}
 use borrow.Author.Differences.{up, down}
@@ -27,6 +28,25 @@ use borrow.Author.Differences.{up, down}
 pub gap_is : (g : ℕ) (after before y z : ℤ) → g ≡ gap (to_z w64 (of_z w64 after)) (to_z w64 (of_z w64 before)) → after ≡ y → before ≡ z →
     unsigned_abs after ≤ 2_000_000_000 → unsigned_abs before ≤ 2_000_000_000 → g ≡ gap y z
 gap_is g after before y z e f h i j = rw (e, passed after (omega arith), passed before (omega arith), f, h) refl
+
+short : (z : ℤ) → IsCoordinate z → to_z w32 (of_z w32 z) ≡ z
+short z h = let a = h.from in let b = h.to in to_z-of_z w32 z (fits_signed_from_abs w32 z (omega (arith, ints)))
+
+pub lowest_is : (r y z : ℤ) (d : ℕ) → IsCoordinate y → IsCoordinate z → r ≡ int_min (to_z w32 (of_z w32 y)) (to_z w32 (of_z w32 z)) -ℤ pos d → r ≡ int_min y z -ℤ pos d
+lowest_is r y z d h k e = rw (short y h, short z k) at e
+
+pub highest_is : (r y z : ℤ) (d : ℕ) → IsCoordinate y → IsCoordinate z → r ≡ int_max (to_z w32 (of_z w32 y)) (to_z w32 (of_z w32 z)) +ℤ pos d → r ≡ int_max y z +ℤ pos d
+highest_is r y z d h k e = rw (short y h, short z k) at e
+
+pub reach_is : (d : ℕ) (s : Segment) (west east south north : ℤ) → unsigned_abs west ≤ 8_000_000_000 → unsigned_abs east ≤ 8_000_000_000 → unsigned_abs south ≤ 8_000_000_000 → unsigned_abs north ≤ 8_000_000_000 →
+    west ≡ (reach_of d s).west → east ≡ (reach_of d s).east → south ≡ (reach_of d s).south → north ≡ (reach_of d s).north →
+    record { west = to_z w64 (of_z w64 west); east = to_z w64 (of_z w64 east); south = to_z w64 (of_z w64 south); north = to_z w64 (of_z w64 north) } ≡ reach_of d s
+reach_is d s west east south north h i j k e f g l =
+    let w = passed west (omega arith) ∙ e in
+    let x = passed east (omega arith) ∙ f in
+    let y = passed south (omega arith) ∙ g in
+    let z = passed north (omega arith) ∙ l in
+    λ i. record { west = w i; east = x i; south = y i; north = z i }
 
 pub farther_is : (d sx sy gx gy : ℕ) (a b : Bounds) → sx ≡ gx * gx → sy ≡ gy * gy → gx ≡ gap_x a b → gy ≡ gap_y a b → nat_lt (d * d) (sx + sy) ≡ are_farther d a b
 unfolding are_farther
@@ -220,7 +240,7 @@ spanned : (s : Segment) → IsSpanned (box_of_segment s) s
 spanned s = record { from = IsInBox-from s; to = IsInBox-to s }
 
 -- Two segments by their own boxes.
-pub pair_apart : (d : ℕ) (s t : Segment) → are_farther d (box_of_segment s) (box_of_segment t) ≡ true → false ≡ are_near d s t
+pair_apart : (d : ℕ) (s t : Segment) → are_farther d (box_of_segment s) (box_of_segment t) ≡ true → false ≡ are_near d s t
 pair_apart d s t far = sym (not_near d (box_of_segment s) (box_of_segment t) s t far (spanned s) (spanned t))
 
 -- A segment by its own box, and a geometry by its bounds.
@@ -254,3 +274,69 @@ geometries_apart d a b m n i j f g far = sym (rw (
     (segments-in m a (recursion_from_All (λ q. IsInBox q m) (positions_of a) i.holds))
     (segments-in n b (recursion_from_All (λ q. IsInBox q n) (positions_of b) j.holds))
 ) refl)
+
+gap_holds : (y z : ℤ) → (y ≤ℤ pos (gap y z)) × (z ≤ℤ pos (gap y z))
+gap_holds y z = (omega (arith, ints, clamps), omega (arith, ints, clamps))
+
+wide : (d x y : ℕ) → d < x → d * d < x * x + y * y
+wide d x y h = let more = mul-le (d + 1) (d + 1) x x (omega arith) (omega arith) in omega arith
+
+tall : (d x y : ℕ) → d < y → d * d < x * x + y * y
+tall d x y h = let more = mul-le (d + 1) (d + 1) y y (omega arith) (omega arith) in omega arith
+
+farther_from : (d : ℕ) (a b : Bounds) → d * d < gap_x a b * gap_x a b + gap_y a b * gap_y a b → are_farther d a b ≡ true
+unfolding are_farther
+farther_from d a b h = lt-ltb _ _ h
+
+lt_fact : (a b : ℤ) → int_lt a b ≡ true → a <ℤ b
+lt_fact a b h = grind (arith, ints)
+
+beyond_x : (d : ℕ) (a b : Bounds) → ((a.high.x +ℤ pos d) <ℤ b.low.x) ⊎ ((b.high.x +ℤ pos d) <ℤ a.low.x) → are_farther d a b ≡ true
+beyond_x d a b h =
+    let g = gap_holds (b.low.x -ℤ a.high.x) (a.low.x -ℤ b.high.x) in let g0 = g.0 in let g1 = g.1 in
+    farther_from d a b (wide d (gap_x a b) (gap_y a b) (⊎_elim
+      (λ (k : (a.high.x +ℤ pos d) <ℤ b.low.x). omega (arith, ints))
+      (λ (k : (b.high.x +ℤ pos d) <ℤ a.low.x). omega (arith, ints))
+      h))
+
+beyond_y : (d : ℕ) (a b : Bounds) → ((a.high.y +ℤ pos d) <ℤ b.low.y) ⊎ ((b.high.y +ℤ pos d) <ℤ a.low.y) → are_farther d a b ≡ true
+beyond_y d a b h =
+    let g = gap_holds (b.low.y -ℤ a.high.y) (a.low.y -ℤ b.high.y) in let g0 = g.0 in let g1 = g.1 in
+    farther_from d a b (tall d (gap_x a b) (gap_y a b) (⊎_elim
+      (λ (k : (a.high.y +ℤ pos d) <ℤ b.low.y). omega (arith, ints))
+      (λ (k : (b.high.y +ℤ pos d) <ℤ a.low.y). omega (arith, ints))
+      h))
+
+both_above : (z e f : ℤ) → (int_lt z e && int_lt z f) ≡ true → z <ℤ int_min e f
+both_above z e f h =
+    let k = both (int_lt z e) (int_lt z f) h in
+    let a = lt_fact z e k.0 in let b = lt_fact z f k.1 in
+    omega (arith, ints, clamps)
+
+both_below : (z e f : ℤ) → (int_lt e z && int_lt f z) ≡ true → int_max e f <ℤ z
+both_below z e f h =
+    let k = both (int_lt e z) (int_lt f z) h in
+    let a = lt_fact e z k.0 in let b = lt_fact f z k.1 in
+    omega (arith, ints, clamps)
+
+moved : (m n : ℤ) (d : ℕ) → m <ℤ (n -ℤ pos d) → (m +ℤ pos d) <ℤ n
+moved m n d h = omega (arith, ints)
+
+reach_farther : (d : ℕ) (s t : Segment) → is_beyond (reach_of d s) t ≡ true → are_farther d (box_of_segment s) (box_of_segment t) ≡ true
+unfolding is_beyond
+reach_farther d s t h =
+    let r : Reach = reach_of d s in
+    elim (either ((int_lt r.east t.from.x && int_lt r.east t.to.x) || (int_lt t.from.x r.west && int_lt t.to.x r.west)) ((int_lt r.north t.from.y && int_lt r.north t.to.y) || (int_lt t.from.y r.south && int_lt t.to.y r.south)) h) [
+      | inl x ↦ beyond_x d (box_of_segment s) (box_of_segment t) (elim (either (int_lt r.east t.from.x && int_lt r.east t.to.x) (int_lt t.from.x r.west && int_lt t.to.x r.west) x) [
+        | inl k ↦ inl (both_above r.east t.from.x t.to.x k)
+        | inr k ↦ inr (moved (int_max t.from.x t.to.x) (int_min s.from.x s.to.x) d (both_below r.west t.from.x t.to.x k))
+      ])
+      | inr y ↦ beyond_y d (box_of_segment s) (box_of_segment t) (elim (either (int_lt r.north t.from.y && int_lt r.north t.to.y) (int_lt t.from.y r.south && int_lt t.to.y r.south) y) [
+        | inl k ↦ inl (both_above r.north t.from.y t.to.y k)
+        | inr k ↦ inr (moved (int_max t.from.y t.to.y) (int_min s.from.y s.to.y) d (both_below r.south t.from.y t.to.y k))
+      ])
+    ]
+
+-- What lies beyond the reach of a segment is not near it.
+pub reach_apart : (d : ℕ) (s t : Segment) (r : Reach) → r ≡ reach_of d s → is_beyond r t ≡ true → false ≡ are_near d s t
+reach_apart d s t r is h = pair_apart d s t (reach_farther d s t (subst (λ (x : Reach). is_beyond x t ≡ true) is h))

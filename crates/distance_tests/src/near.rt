@@ -2,8 +2,7 @@
 ghost use Rattle.std.specs.Prelude.{◌≡◌, ◌≤◌, ◌*◌, ◌-ℤ◌, ◌*ℤ◌, unsigned_abs, nat_le};
 ghost use Rattle.distance_tests.specs.Within.{way, dot, cross, are_close, is_before, is_behind, is_abreast, is_line_close, is_near, are_near};
 
-use crate::gaps::are_farther;
-use geom_core::{Box2, Pos};
+use geom_core::Pos;
 
 /// How far the second position lies to greater x of the first.
 pub fn eastward(from: Pos, to: Pos) -> i64
@@ -124,15 +123,11 @@ fn is_near(p: Pos, a: Pos, b: Pos, d: u64) -> bool
             || (is_abreast(p, a, b) && is_line_close(p, a, b, d)))
 }
 
-/// Whether an end of one of the segments from `a` to `b` and from `e` to `f` is near the other. Their
-/// bounds are compared first.
+/// Whether an end of one of the segments from `a` to `b` and from `e` to `f` is near the other.
 #[tactic(auto, unfolding(crate::specs::Within::are_near))]
 pub fn are_near(a: Pos, b: Pos, e: Pos, f: Pos, d: u64) -> bool
     requires { d ≤ 4_000_000_000 }
     ensures { result ≡ are_near d (record { from = a; to = b }) (record { from = e; to = f }) }
 {
-    if are_farther(&Box2::between(a, b), &Box2::between(e, f), d) {
-        return false;
-    }
     (is_near(a, e, f, d) || is_near(b, e, f, d)) || (is_near(e, a, b, d) || is_near(f, a, b, d))
 }

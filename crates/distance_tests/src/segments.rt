@@ -3,9 +3,10 @@ ghost use Rattle.std.specs.Prelude.{◌≡◌, ◌≤◌};
 ghost use Rattle.std.specs.List.{list_any};
 ghost use Rattle.geom_core.specs.Rings.{edges, edges_from};
 ghost use Rattle.spatial_tests.specs.Sharing.{segments_of, segments_of_area};
-ghost use Rattle.distance_tests.specs.Within.{near_some, are_any_near};
+ghost use Rattle.distance_tests.specs.Gaps.{reach_of};
+ghost use Rattle.distance_tests.specs.Within.{are_near, near_some, are_any_near};
 
-use crate::gaps::are_farther;
+use crate::gaps::{Reach, are_farther};
 use crate::near::are_near;
 use geom_core::{Box2, Geometry, Polygon, Pos, Ring, bounds};
 
@@ -54,13 +55,27 @@ fn is_near_path(a: Pos, b: Pos, path: &[Pos], d: u64) -> bool
     is_near_path_from(a, b, path[0], &path[1..], d)
 }
 
+/// Whether an end of one of the segments from `a` to `b` and from `e` to `f` is near the other, by what the first
+/// reaches at first.
+fn are_reached_near(reach: &Reach, a: Pos, b: Pos, e: Pos, f: Pos, d: u64) -> bool
+    requires reach { reach.now ≡ reach_of d (record { from = a; to = b }) }
+    requires d { d ≤ 4_000_000_000 }
+    ensures { result ≡ are_near d (record { from = a; to = b }) (record { from = e; to = f }) }
+{
+    if reach.is_short_of(e, f) {
+        return false;
+    }
+    are_near(a, b, e, f, d)
+}
+
 /// Whether the segment from `a` to `b` is near a segment of the path from `last` on.
 fn is_near_path_from(a: Pos, b: Pos, mut last: Pos, path: &[Pos], d: u64) -> bool
     requires { d ≤ 4_000_000_000 }
     ensures { result ≡ near_some d (record { from = a; to = b }) (edges_from last path.now) }
 {
+    let reach = Reach::of(a, b, d);
     for next in path {
-        if are_near(a, b, last, *next, d) {
+        if are_reached_near(&reach, a, b, last, *next, d) {
             return true;
         }
         last = *next;
