@@ -34,7 +34,8 @@ area_is area h =
 
 -- ---- what a reading gives is valid, and what it was given
 
-without : {E A : Type 0} (b : Bool) (r : Result A E) (d : E) (y : A) → (if b then Err d else r) ≡ Ok y → (b ≡ false) × (r ≡ Ok y)
+-- a reading that did not end at a test
+pub without : {E A : Type 0} (b : Bool) (r : Result A E) (d : E) (y : A) → (if b then Err d else r) ≡ Ok y → (b ≡ false) × (r ≡ Ok y)
 without true r d y e = absurd cc
 without false r d y e = (refl, e)
 

@@ -1,6 +1,6 @@
 -- What is read was written so: lists, texts and shapes.
-use Rattle.std.proofs.Common.{◌≡◌, ℕ, zero, suc, ◌-◌, ◌^◌, ◌<◌, ◌≤◌, Bool, true, false, List, [], ◌∷◌, ◌++◌, length, take, drop, Result, Ok, Err, ℤ, refl, sym, ap, ◌∙◌, subst, arith, append_assoc}
-use Rattle.std.specs.Prelude.{All, nat_lt, if◌then◌else◌, ◌==◌}
+use Rattle.std.proofs.Common.{◌≡◌, ℕ, zero, suc, ◌-◌, ◌^◌, ◌<◌, ◌≤◌, false, List, [], ◌∷◌, ◌++◌, length, take, drop, Result, Ok, Err, ℤ, refl, sym, ap, ◌∙◌, subst, arith, append_assoc}
+use Rattle.std.specs.Prelude.{All, nat_lt, ◌==◌}
 use Rattle.std.specs.Int.{w32, cast_unsigned}
 use Rattle.std.specs.List.{flat_map}
 use Rattle.std.specs.Str.{IsUtf8, is_utf8}
@@ -13,7 +13,7 @@ use Rattle.geom_core.specs.Plane.{Point, IsPosition, Area}
 use Rattle.geom_core.specs.declared.fault.GeomFault.{GeomFault}
 use Rattle.geom_core.specs.Shapes.{IsLine, IsRing, IsPolygon, position_of, line_of, ring_of, polygon_of}
 use Rattle.geom_core.specs.Valid.{IsLineOf, IsRingOf, IsAreaOf}
-use Rattle.geom_core.proofs.Valid.{position_gives, line_gives, ring_gives, area_gives}
+use Rattle.geom_core.proofs.Valid.{without, position_gives, line_gives, ring_gives, area_gives}
 use Rattle.wfs_ends.specs.Read.{◌>>=◌}
 use Rattle.wfs_ends.proofs.Turns.{bind_ok, if_ok, ok_is}
 use Rattle.journal_format.specs.declared.fault.RecordFault.{RecordFault}
@@ -27,11 +27,6 @@ use Rattle.journal_format.proofs.Words.{IsRead, IsExact}
 -- what stands behind bytes is bytes
 pub behind : (front rest bytes : List ℕ) → bytes ≡ front ++ rest → AreBytes bytes → AreBytes rest
 behind front rest bytes is are = subst AreBytes (ap (drop (length front)) is ∙ drop_at front rest (length front) refl) (All-drop (λ b. b < 256) (length front) bytes are)
-
--- a reading that did not end at a test
-pub otherwise : {E A : Type 0} (b : Bool) (r : Result A E) (d : E) (y : A) → (if b then Err d else r) ≡ Ok y → (b ≡ false) × (r ≡ Ok y)
-otherwise true r d y e = absurd cc
-otherwise false r d y e = (refl, e)
 
 not_short : (m n : ℕ) → nat_lt m n ≡ false → n ≤ m
 not_short m n e = grind arith
@@ -97,7 +92,7 @@ record WordsRead (n : ℕ) (bytes : List ℕ) (x : List ℕ × List ℕ) : Type 
 words_read : (n : ℕ) (bytes : List ℕ) (x : List ℕ × List ℕ) → words_at n bytes ≡ Ok x → WordsRead n bytes x
 unfolding words_at words_of
 words_read n bytes x e =
-    let long = otherwise (nat_lt (length bytes) n) _ Cut x e in
+    let long = without (nat_lt (length bytes) n) _ Cut x e in
     let le : n ≤ length bytes = not_short (length bytes) n long.0 in
     let b = bind_ok (words_of (take n bytes)) (λ text. Ok (text, drop n bytes)) x long.1 in
     let utf8 = if_ok (is_utf8 (take n bytes)) (Ok (take n bytes)) Kind b.0 b.1 in
@@ -202,7 +197,7 @@ rings_joined n shell holes bytes behind_shell behind_holes x some first others s
 rings_read : (n : ℕ) (bytes : List ℕ) (x : Area × List ℕ) → AreBytes bytes → rings_at n bytes ≡ Ok x → RingsRead n bytes x
 unfolding rings_at
 rings_read n bytes x are e =
-    let some = otherwise (n == 0) _ Kind x e in
+    let some = without (n == 0) _ Kind x e in
     let b = bind_ok (ring_at bytes) (λ shell. times ring_at (n - 1) [] shell.1 >>= λ holes. shaped (polygon_of shell.0 holes.0) holes.1) x some.1 in
     let shell = ring_exact.told bytes b.0 are b.1 in
     let c = bind_ok (times ring_at (n - 1) [] b.0.1) (λ holes. shaped (polygon_of b.0.0 holes.0) holes.1) x b.2 in

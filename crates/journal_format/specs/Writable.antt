@@ -17,7 +17,7 @@ use Rattle.wfs_model.specs.declared.change.Change.TheVariants.{Opening, Rows, Cr
 abbrev pub IsCounter : ℕ → Type 0
 IsCounter n = n ≤ last_count
 
--- a text in UTF-8, a whole number of 64 bits, a shape that is valid
+-- a text is in UTF-8, a whole number has 64 bits, a shape is valid
 abbrev pub IsValue : Value → Type 0
 IsValue Null = ⊤
 IsValue (Words text) = IsUtf8 text
@@ -25,9 +25,11 @@ IsValue (Whole number) = FitsSigned w64 number
 IsValue (Truth b) = ⊤
 IsValue (Shape shape) = IsGeometry shape
 
+-- the number of an identifier has 64 bits; its type is bounded by the bytes that it has
 abbrev pub IsId : Rid → Type 0
 IsId id = IsCounter id.number
 
+-- a feature that stands, with its values, or the identifier of one that goes
 abbrev pub IsPart : Part → Type 0
 IsPart (Put feature) = IsId feature.id × All IsValue feature.values
 IsPart (Remove id) = IsId id
@@ -39,6 +41,7 @@ pub record IsStored (query : StoredQuery) : Type 0 where
   pub parameters : All IsUtf8 query.parameters
   pub text : IsUtf8 query.text
 
+-- what every change of the program is, and the schema's signature where it is written
 abbrev pub IsWritable : Change → List ℕ → Type 0
 IsWritable (Opening number) signature = IsCounter number × IsUtf8 signature
 IsWritable (Rows parts) signature = All IsPart parts
