@@ -48,4 +48,3 @@ le_test m n h = grind (arith, ints)
 
 pub lt_test : (m n : ℕ) → int_lt (pos m) (pos n) ≡ true → m < n
 lt_test m n h = grind (arith, ints)
-

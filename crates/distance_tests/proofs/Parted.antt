@@ -66,18 +66,18 @@ above_none z = ⊎_elim (λ (h : int_lt (pos 0) z ≡ true). inl (rw h (up_is z 
 
 gap_cases : (y z : ℤ) → (pos (gap y z) ≡ y) ⊎ ((pos (gap y z) ≡ z) ⊎ (gap y z ≡ 0))
 gap_cases y z = ⊎_elim
-  (λ (k : pos (gap y z) ≡ int_max y z). ⊎_elim (λ (e : int_max y z ≡ y). inl (k ∙ e)) (λ (e : int_max y z ≡ z). inr (inl (k ∙ e))) (max_one y z))
-  (λ (k : gap y z ≡ 0). inr (inr k))
-  (above_none (int_max y z))
+    (λ (k : pos (gap y z) ≡ int_max y z). ⊎_elim (λ (e : int_max y z ≡ y). inl (k ∙ e)) (λ (e : int_max y z ≡ z). inr (inl (k ∙ e))) (max_one y z))
+    (λ (k : gap y z ≡ 0). inr (inr k))
+    (above_none (int_max y z))
 
 -- A number of one span, and two of another that lies so far away.
 side_of : (low high from to p f t : ℤ) → low ≤ℤ p → p ≤ℤ high → from ≤ℤ f → f ≤ℤ to → from ≤ℤ t → t ≤ℤ to → Side (gap (from -ℤ high) (low -ℤ to)) p f t
 side_of low high from to p f t a b c d e h = ⊎_elim
-  (λ (k : pos (gap (from -ℤ high) (low -ℤ to)) ≡ from -ℤ high). after (omega (arith, ints)) (omega (arith, ints)))
-  (⊎_elim
+    (λ (k : pos (gap (from -ℤ high) (low -ℤ to)) ≡ from -ℤ high). after (omega (arith, ints)) (omega (arith, ints)))
+    (⊎_elim
     (λ (k : pos (gap (from -ℤ high) (low -ℤ to)) ≡ low -ℤ to). before (omega (arith, ints)) (omega (arith, ints)))
     (λ (k : gap (from -ℤ high) (low -ℤ to) ≡ 0). level k))
-  (gap_cases (from -ℤ high) (low -ℤ to))
+    (gap_cases (from -ℤ high) (low -ℤ to))
 
 -- So far away is each of them.
 far_of : (g : ℕ) (p f t : ℤ) → Side g p f t → (g ≤ unsigned_abs (f -ℤ p)) × (g ≤ unsigned_abs (t -ℤ p))
@@ -112,9 +112,9 @@ foot_far g p f t m n (after a b) =
     let y : ℕ = unsigned_abs (t -ℤ p) in
     let z : ℕ = unsigned_abs (f -ℤ p) in
     let e : pos m *ℤ (t -ℤ f) -ℤ (p -ℤ f) *ℤ pos (m + n) ≡ pos (m * y + n * z) = same_from _ _
-        (minus _ _ (times _ _ (itself (pos m)) (record { p = y; q = z; is = omega (arith, ints) })) (times _ _ (record { p = 0; q = z; is = omega (arith, ints) }) (itself (pos (m + n)))))
-        (itself (pos (m * y + n * z)))
-        (omega arith) in
+    (minus _ _ (times _ _ (itself (pos m)) (record { p = y; q = z; is = omega (arith, ints) })) (times _ _ (record { p = 0; q = z; is = omega (arith, ints) }) (itself (pos (m + n)))))
+    (itself (pos (m * y + n * z)))
+    (omega arith) in
     let long : (m + n) * g ≤ m * y + n * z = mixed m n y z g (omega (arith, ints)) (omega (arith, ints)) in
     let is : unsigned_abs ((p -ℤ f) *ℤ pos (m + n) -ℤ pos m *ℤ (t -ℤ f)) ≡ m * y + n * z = abs_turned ((p -ℤ f) *ℤ pos (m + n)) (pos m *ℤ (t -ℤ f)) ∙ ap unsigned_abs e in
     omega arith
@@ -122,9 +122,9 @@ foot_far g p f t m n (before a b) =
     let y : ℕ = unsigned_abs (p -ℤ t) in
     let z : ℕ = unsigned_abs (p -ℤ f) in
     let e : (p -ℤ f) *ℤ pos (m + n) -ℤ pos m *ℤ (t -ℤ f) ≡ pos (m * y + n * z) = same_from _ _
-        (minus _ _ (times _ _ (record { p = z; q = 0; is = omega (arith, ints) }) (itself (pos (m + n)))) (times _ _ (itself (pos m)) (record { p = z; q = y; is = omega (arith, ints) })))
-        (itself (pos (m * y + n * z)))
-        (omega arith) in
+    (minus _ _ (times _ _ (record { p = z; q = 0; is = omega (arith, ints) }) (itself (pos (m + n)))) (times _ _ (itself (pos m)) (record { p = z; q = y; is = omega (arith, ints) })))
+    (itself (pos (m * y + n * z)))
+    (omega arith) in
     let long : (m + n) * g ≤ m * y + n * z = mixed m n y z g (omega (arith, ints)) (omega (arith, ints)) in
     let is : unsigned_abs ((p -ℤ f) *ℤ pos (m + n) -ℤ pos m *ℤ (t -ℤ f)) ≡ m * y + n * z = ap unsigned_abs e in
     omega arith
@@ -159,13 +159,13 @@ line_far d gx gy p s h k e f =
     let sum : m + n ≡ l = omega arith in
     let square : pos (m + n) ≡ dot w w = ap (λ (i : ℕ). pos i) sum ∙ sym whole in
     let by_x : l * gx ≤ y * c = reach l m n gx y c (v.x *ℤ pos (m + n) -ℤ pos m *ℤ w.x) w.y (cross v w) sum
-        (ap (λ (i : ℤ). v.x *ℤ i -ℤ pos m *ℤ w.x) square ∙ ap (λ (i : ℤ). v.x *ℤ dot w w -ℤ i *ℤ w.x) along ∙ foot_x v w)
-        (foot_far gx p.x s.from.x s.to.x m n h) in
+    (ap (λ (i : ℤ). v.x *ℤ i -ℤ pos m *ℤ w.x) square ∙ ap (λ (i : ℤ). v.x *ℤ dot w w -ℤ i *ℤ w.x) along ∙ foot_x v w)
+    (foot_far gx p.x s.from.x s.to.x m n h) in
     let by_y : l * gy ≤ x * c = reach l m n gy x c (pos m *ℤ w.y -ℤ v.y *ℤ pos (m + n)) w.x (cross v w) sum
-        (ap (λ (i : ℤ). pos m *ℤ w.y -ℤ v.y *ℤ i) square ∙ ap (λ (i : ℤ). i *ℤ w.y -ℤ v.y *ℤ dot w w) along ∙ foot_y v w)
-        (turned ((m + n) * gy) _ _ (foot_far gy p.y s.from.y s.to.y m n k) (abs_turned (v.y *ℤ pos (m + n)) (pos m *ℤ w.y))) in
+    (ap (λ (i : ℤ). pos m *ℤ w.y -ℤ v.y *ℤ i) square ∙ ap (λ (i : ℤ). i *ℤ w.y -ℤ v.y *ℤ dot w w) along ∙ foot_y v w)
+    (turned ((m + n) * gy) _ _ (foot_far gy p.y s.from.y s.to.y m n k) (abs_turned (v.y *ℤ pos (m + n)) (pos m *ℤ w.y))) in
     let near : c * c ≤ d * d * l = le_test (c * c) (d * d * l)
-        (ap (λ (z : ℤ). int_le z (pos (d * d * l))) (sym (square_is (cross v w))) ∙ ap (λ (z : ℤ). int_le (cross v w *ℤ cross v w) (pos (d * d) *ℤ z)) (sym whole) ∙ f) in
+    (ap (λ (z : ℤ). int_le z (pos (d * d * l))) (sym (square_is (cross v w))) ∙ ap (λ (z : ℤ). int_le (cross v w *ℤ cross v w) (pos (d * d) *ℤ z)) (sym whole) ∙ f) in
     squares_far l x y c (d * d) gx gy (omega arith) refl near by_x by_y
   where
     reach : (l m n g y c : ℕ) (z w k : ℤ) → m + n ≡ l → z ≡ w *ℤ k → (m + n) * g ≤ unsigned_abs z → l * g ≤ unsigned_abs w * unsigned_abs k
@@ -249,9 +249,9 @@ segment_apart d s g b least far = sym (near_none d (box_of_segment s) b s (segme
 
 gap_up : (y z : ℤ) → 0 < gap y z → (pos 0 <ℤ y) ⊎ (pos 0 <ℤ z)
 gap_up y z h = ⊎_elim
-  (λ (k : pos (gap y z) ≡ y). inl (omega (arith, ints)))
-  (⊎_elim (λ (k : pos (gap y z) ≡ z). inr (omega (arith, ints))) (λ (k : gap y z ≡ 0). absurd (omega arith)))
-  (gap_cases y z)
+    (λ (k : pos (gap y z) ≡ y). inl (omega (arith, ints)))
+    (⊎_elim (λ (k : pos (gap y z) ≡ z). inr (omega (arith, ints))) (λ (k : gap y z ≡ 0). absurd (omega arith)))
+    (gap_cases y z)
 
 some_gap : (d x y : ℕ) → d * d < x * x + y * y → (0 < x) ⊎ (0 < y)
 some_gap d zero zero h = absurd (omega arith)
@@ -271,8 +271,8 @@ unfolding is_within_distance
 geometries_apart d a b m n i j f g far = sym (rw (
   sym (apart-no_share a b m n i j f g (farther_apart d m n far)),
   none_near d m n (segments_of a) (segments_of b) far
-    (segments-in m a (recursion_from_All (λ q. IsInBox q m) (positions_of a) i.holds))
-    (segments-in n b (recursion_from_All (λ q. IsInBox q n) (positions_of b) j.holds))
+      (segments-in m a (recursion_from_All (λ q. IsInBox q m) (positions_of a) i.holds))
+      (segments-in n b (recursion_from_All (λ q. IsInBox q n) (positions_of b) j.holds)),
 ) refl)
 
 gap_holds : (y z : ℤ) → (y ≤ℤ pos (gap y z)) × (z ≤ℤ pos (gap y z))
@@ -295,17 +295,17 @@ beyond_x : (d : ℕ) (a b : Bounds) → ((a.high.x +ℤ pos d) <ℤ b.low.x) ⊎
 beyond_x d a b h =
     let g = gap_holds (b.low.x -ℤ a.high.x) (a.low.x -ℤ b.high.x) in let g0 = g.0 in let g1 = g.1 in
     farther_from d a b (wide d (gap_x a b) (gap_y a b) (⊎_elim
-      (λ (k : (a.high.x +ℤ pos d) <ℤ b.low.x). omega (arith, ints))
-      (λ (k : (b.high.x +ℤ pos d) <ℤ a.low.x). omega (arith, ints))
-      h))
+    (λ (k : (a.high.x +ℤ pos d) <ℤ b.low.x). omega (arith, ints))
+    (λ (k : (b.high.x +ℤ pos d) <ℤ a.low.x). omega (arith, ints))
+    h))
 
 beyond_y : (d : ℕ) (a b : Bounds) → ((a.high.y +ℤ pos d) <ℤ b.low.y) ⊎ ((b.high.y +ℤ pos d) <ℤ a.low.y) → are_farther d a b ≡ true
 beyond_y d a b h =
     let g = gap_holds (b.low.y -ℤ a.high.y) (a.low.y -ℤ b.high.y) in let g0 = g.0 in let g1 = g.1 in
     farther_from d a b (tall d (gap_x a b) (gap_y a b) (⊎_elim
-      (λ (k : (a.high.y +ℤ pos d) <ℤ b.low.y). omega (arith, ints))
-      (λ (k : (b.high.y +ℤ pos d) <ℤ a.low.y). omega (arith, ints))
-      h))
+    (λ (k : (a.high.y +ℤ pos d) <ℤ b.low.y). omega (arith, ints))
+    (λ (k : (b.high.y +ℤ pos d) <ℤ a.low.y). omega (arith, ints))
+    h))
 
 both_above : (z e f : ℤ) → (int_lt z e && int_lt z f) ≡ true → z <ℤ int_min e f
 both_above z e f h =

@@ -60,9 +60,9 @@ close_same p q e =
 
 less_than : (a b m n : ℕ) → 0 < m → a * (m + n) ≡ m * b → a ≤ b
 less_than a b m n some e = ⊎_elim
-  (λ (h : b < a). let more : (b + 1) * (m + n) ≤ a * (m + n) = mul-le (b + 1) (m + n) a (m + n) (omega arith) (omega arith) in absurd (omega arith))
-  (λ (h : a ≤ b). h)
-  (cases_lt b a)
+    (λ (h : b < a). let more : (b + 1) * (m + n) ≤ a * (m + n) = mul-le (b + 1) (m + n) a (m + n) (omega arith) (omega arith) in absurd (omega arith))
+    (λ (h : a ≤ b). h)
+    (cases_lt b a)
 
 -- A number that is to another as m to m + n.
 in_part : (v w : ℤ) (m n : ℕ) → 0 < m → v *ℤ pos (m + n) ≡ pos m *ℤ w → ((pos 0 ≤ℤ v) × (v ≤ℤ w)) ⊎ ((w ≤ℤ v) × (v ≤ℤ pos 0))
@@ -90,9 +90,9 @@ same_by a b c k none e = same a b (e ∙ ap (λ (i : ℤ). c *ℤ i) none ∙ no
 turned : (x y u z : ℤ) → x *ℤ z -ℤ y *ℤ u ≡ pos 0 → u *ℤ y -ℤ z *ℤ x ≡ pos 0
 turned x y u z e =
     let back : u *ℤ y -ℤ z *ℤ x ≡ pos 0 -ℤ (x *ℤ z -ℤ y *ℤ u) = same_from _ _
-        (minus _ _ (times u y (itself u) (itself y)) (times z x (itself z) (itself x)))
-        (minus _ _ (itself (pos 0)) (minus _ _ (times x z (itself x) (itself z)) (times y u (itself y) (itself u))))
-        (omega arith) in
+    (minus _ _ (times u y (itself u) (itself y)) (times z x (itself z) (itself x)))
+    (minus _ _ (itself (pos 0)) (minus _ _ (times x z (itself x) (itself z)) (times y u (itself y) (itself u))))
+    (omega arith) in
     back ∙ ap (λ (i : ℤ). pos 0 -ℤ i) e
 
 -- A point whose perpendicular has no length, and falls between the ends of a segment.
@@ -112,12 +112,12 @@ line_on p s e f =
     let n : ℕ = l - m in
     let square : pos (m + n) ≡ dot w w = ap (λ (i : ℕ). pos i) (omega arith) ∙ sym whole in
     let small : c * c ≤ 0 * 0 * l = le_test (c * c) (0 * 0 * l)
-        (ap (λ (z : ℤ). int_le z (pos (0 * 0 * l))) (sym (square_is (cross v w))) ∙ ap (λ (z : ℤ). int_le (cross v w *ℤ cross v w) (pos (0 * 0) *ℤ z)) (sym whole) ∙ f) in
+    (ap (λ (z : ℤ). int_le z (pos (0 * 0 * l))) (sym (square_is (cross v w))) ∙ ap (λ (z : ℤ). int_le (cross v w *ℤ cross v w) (pos (0 * 0) *ℤ z)) (sym whole) ∙ f) in
     let flat : cross v w ≡ pos 0 = abs_none (cross v w) (no_square c 0 (omega arith)) in
     let by_x : v.x *ℤ pos (m + n) ≡ pos m *ℤ w.x =
-        ap (λ (i : ℤ). v.x *ℤ i) square ∙ same_by (v.x *ℤ dot w w) (dot v w *ℤ w.x) w.y (cross v w) flat (foot_x v w) ∙ ap (λ (i : ℤ). i *ℤ w.x) (sym along) in
+    ap (λ (i : ℤ). v.x *ℤ i) square ∙ same_by (v.x *ℤ dot w w) (dot v w *ℤ w.x) w.y (cross v w) flat (foot_x v w) ∙ ap (λ (i : ℤ). i *ℤ w.x) (sym along) in
     let by_y : v.y *ℤ pos (m + n) ≡ pos m *ℤ w.y =
-        ap (λ (i : ℤ). v.y *ℤ i) square ∙ sym (same_by (dot v w *ℤ w.y) (v.y *ℤ dot w w) w.x (cross v w) flat (foot_y v w)) ∙ ap (λ (i : ℤ). i *ℤ w.y) (sym along) in
+    ap (λ (i : ℤ). v.y *ℤ i) square ∙ sym (same_by (dot v w *ℤ w.y) (v.y *ℤ dot w w) w.x (cross v w) flat (foot_y v w)) ∙ ap (λ (i : ℤ). i *ℤ w.y) (sym along) in
     on_line p s (part_between p.x s.from.x s.to.x m n some by_x) (part_between p.y s.from.y s.to.y m n some by_y) (turned v.x v.y w.x w.y flat)
 
 near_on : (p : Point) (s : Segment) → is_near 0 p s ≡ true → is_on p s ≡ true
@@ -134,9 +134,9 @@ near_meets : (s t : Segment) → are_near 0 s t ≡ true → do_meet s t ≡ tru
 unfolding are_near do_meet do_touch
 near_meets s t e = or_left _ _
     (or-more (is_near 0 s.from t || is_near 0 s.to t) (is_near 0 t.from s || is_near 0 t.to s) (is_on s.from t || is_on s.to t) (is_on t.from s || is_on t.to s)
-      (or-more (is_near 0 s.from t) (is_near 0 s.to t) (is_on s.from t) (is_on s.to t) (near_on s.from t) (near_on s.to t))
-      (or-more (is_near 0 t.from s) (is_near 0 t.to s) (is_on t.from s) (is_on t.to s) (near_on t.from s) (near_on t.to s))
-      e)
+    (or-more (is_near 0 s.from t) (is_near 0 s.to t) (is_on s.from t) (is_on s.to t) (near_on s.from t) (near_on s.to t))
+    (or-more (is_near 0 t.from s) (is_near 0 t.to s) (is_on t.from s) (is_on t.to s) (near_on t.from s) (near_on t.to s))
+    e)
 
 any_meets : (ss ts : List Segment) → are_any_near 0 ss ts ≡ true → do_any_meet ss ts ≡ true
 any_meets ss ts = any-more (λ s. near_some 0 s ts) (λ s. meets_some s ts) (λ s. any-more (are_near 0 s) (do_meet s) (near_meets s) ts) ss
