@@ -1,12 +1,15 @@
 -- New stored queries, judged one after the other.
-use Rattle.std.proofs.Common.{◌≡◌, ℕ, ◌+◌, ◌<◌, ◌≤◌, Bool, true, false, ◌||◌, List, [], ◌∷◌, ◌++◌, length, get_or, take, drop, Result, Ok, Err, refl, sym, ap, ◌∙◌, append_assoc, append-nil}
+use Rattle.std.proofs.Common.{◌≡◌, ℕ, ◌+◌, ◌<◌, ◌≤◌, Bool, true, false, ◌||◌, List, [], ◌∷◌, ◌++◌, length, get_or, take, drop, Option, Some, None, Result, Ok, Err, refl, sym, ap, ◌∙◌, append_assoc, append-nil, arith}
+use Rattle.std.specs.Prelude.{is_none}
 use Rattle.std.proofs.lemmas.List.{take_more, take_all, at_drop_more, at_drop_all}
 use Rattle.std.proofs.lemmas.List.Folds.{list_any-append}
 use Rattle.wfs_ends.specs.Read.{◌>>=◌, each}
 use Rattle.wfs_model.specs.declared.stored.StoredQuery.{StoredQuery}
 use Rattle.wfs_model.specs.declared.fault.StoredFault.{StoredFault}
 use Rattle.wfs_model.specs.declared.fault.StoredFault.TheVariants.{DuplicateId}
+use Rattle.wfs_model.specs.Playable.{is_ok}
 use Rattle.wfs_model.specs.Stored.{created, created_one, is_known, is_there, is_id_query, has_id}
+use Rattle.stored_queries.specs.Listed.{IsFirstKnown}
 
 or_more : (a b c : Bool) → (a || (b || c)) ≡ ((a || b) || c)
 or_more true b c = refl
@@ -42,3 +45,12 @@ unfolding each
 all_new stored queries i le so_far =
     sym so_far ∙ at_drop_all (λ ys. each created_one (stored ++ take i queries) ys) queries i le
     ∙ ap (λ l. let r : Result (List StoredQuery) StoredFault = Ok (stored ++ l) in r) (take_all i queries le)
+
+-- whether all are new is whether none is known
+pub is_accepted : (stored queries : List StoredQuery) (first : Option ℕ) → IsFirstKnown stored queries first → is_none first ≡ is_ok (created stored queries)
+is_accepted stored queries None first = rw first refl
+is_accepted stored queries (Some i) first = by_fault queries first.0 first.1
+  where
+    by_fault : (all : List StoredQuery) → i < length all → ((d : StoredQuery) → created stored queries ≡ Err (DuplicateId (get_or all i d).id)) → false ≡ is_ok (created stored queries)
+    by_fault [] lt is = absurd (omega (arith, lt))
+    by_fault (query ∷ all) lt is = rw (is query) refl

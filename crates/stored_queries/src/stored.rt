@@ -5,6 +5,7 @@ ghost use Rattle.std.specs.Option.{option_copied};
 ghost use Rattle.wfs_ends.specs.Read.{GivesBut};
 ghost use Rattle.wfs_model.specs.declared.stored.StoredQuery.{StoredQuery as Definition};
 ghost use Rattle.wfs_model.specs.declared.fault.StoredFault.TheVariants.{OutOfMemory as NoMemory};
+ghost use Rattle.wfs_model.specs.Playable.{is_ok};
 ghost use Rattle.wfs_model.specs.Stored.{is_id_query, is_there, is_known, stored_at, built_in, created, dropped, without_query};
 ghost use Rattle.stored_queries.specs.Listed.{left, IsFirstKnown};
 
@@ -147,6 +148,21 @@ impl Stored {
         ensures { result.now ≡ self.now.list }
     {
         self.queries.as_slice()
+    }
+
+    /// Whether one of the stored queries has an identifier. The built-in one is none of them.
+    pub fn has(&self, id: &str) -> bool
+        ensures { result ≡ is_there self.now.list id.now }
+    {
+        is_there(self.queries.as_slice(), id)
+    }
+
+    /// Whether `create` would make these stored queries: each has a new identifier.
+    #[tactic(auto, using(crate::proofs::Created::is_accepted))]
+    pub fn accepts(&self, definitions: &[StoredQuery]) -> bool
+        ensures { result ≡ is_ok (created self.now.list definitions.now) }
+    {
+        first_known(self.queries.as_slice(), definitions).is_none()
     }
 
     /// Makes room, so that so many more stored queries can be made without memory.

@@ -1,5 +1,7 @@
 pub mod Carrying
+pub mod Changes
 pub mod Laying
+pub mod Marks
 pub mod Places
 pub mod Stores
 pub mod Takings

@@ -1,16 +1,12 @@
--- What holds of each plain machine, and which changes may be played on one.
-use Rattle.std.specs.Prelude.{◌≡◌, ◌≤◌, [], ◌++◌, length, All, Ok, ⊤}
+-- What holds of each plain machine, and what a change that was kept leaves of one.
+use Rattle.std.specs.Prelude.{◌≡◌, ◌≤◌}
 use Rattle.feature_values.specs.declared.schema.Schema.{Schema}
-use Rattle.feature_values.specs.Fits.{feature_fits}
 use Rattle.lock_table.specs.Lock.{Locks}
-use Rattle.wfs_model.specs.declared.change.Part.{Part}
-use Rattle.wfs_model.specs.declared.change.Part.TheVariants.{Put, Remove}
 use Rattle.wfs_model.specs.declared.change.Change.{Change}
-use Rattle.wfs_model.specs.declared.change.Change.TheVariants.{Opening, Rows, Created, Dropped, Base}
-use Rattle.wfs_model.specs.State.{State, Durable, durable, last_moment}
-use Rattle.wfs_model.specs.Stored.{created}
-use Rattle.wfs_model.specs.OfSchema.{IsStoredOf}
-use Rattle.wfs_model.specs.Kept.{IsKept, IsGiven}
+use Rattle.wfs_model.specs.declared.change.Change.TheVariants.{Opening, Base}
+use Rattle.wfs_model.specs.State.{State, Durable, durable, opened, last_moment}
+use Rattle.wfs_model.specs.Played.{played_one}
+use Rattle.wfs_model.specs.Kept.{IsKept}
 
 -- ---- machines
 
@@ -22,26 +18,18 @@ pub record IsRunning (schema : Schema) (state : State) (table : Locks) : Type 0 
   pub later : table.last ≤ state.last
   pub last : state.last ≤ last_moment
 
--- ---- changes that may be played
+-- ---- changes
 
--- a feature that is put is such as the schema allows
-abbrev pub IsPartOf : Schema → Part → Type 0
-IsPartOf schema (Put f) = feature_fits schema f ≡ Ok tt
-IsPartOf schema (Remove id) = ⊤
-
--- no lock was granted in this opening
-abbrev pub IsLockless : State → Type 0
-IsLockless state = (state.given ≡ 0) × (state.locks ≡ [])
-
--- A change that leaves well what outlives the process. An opening has its number before its first lock.
-abbrev pub IsPlayable : Schema → State → Change → Type 0
-IsPlayable schema state (Opening opening) = IsLockless state
-IsPlayable schema state (Rows parts) = All (IsPartOf schema) parts
-IsPlayable schema state (Created queries) = All (IsStoredOf schema) queries × (created state.stored queries ≡ Ok (state.stored ++ queries))
-IsPlayable schema state (Dropped id) = ⊤
-IsPlayable schema state (Base opening counters) =
-    IsLockless state × (length counters ≡ length schema.types) × All (λ f. IsGiven counters f.id) state.features
+-- A change that keeps well what outlives the process. Each that may be played does, and each that a step makes.
+abbrev pub KeepsWell : Schema → State → Change → Type 0
+KeepsWell schema state change = IsKept schema (played_one (durable state) change)
 
 -- a state with other things that outlive the process
 abbrev pub with_durable : State → Durable → State
 with_durable state kept = record state { features = kept.features; counters = kept.counters; stored = kept.stored; opening = kept.opening }
+
+-- The state after a change that was kept is played. An opening begins without locks, and so does one that a checkpoint tells of.
+abbrev pub after_change : State → Change → State
+after_change state (Opening opening) = opened (durable state) opening
+after_change state (Base opening counters) = opened (played_one (durable state) (Base opening counters)) opening
+after_change state change = with_durable state (played_one (durable state) change)

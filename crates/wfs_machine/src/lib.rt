@@ -2,6 +2,7 @@
 //! reasoning, and for a service whose state may end with the process.
 #![tactic(auto)]
 
+mod changing;
 mod dividing;
 mod locking;
 mod naming;
@@ -14,3 +15,6 @@ mod viewing;
 
 pub use plain::Plain;
 pub use stored_queries::Stored;
+
+#[cfg(test)]
+mod tests;
