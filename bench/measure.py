@@ -16,6 +16,16 @@ DEMO = os.path.join(ROOT, "demo")
 ANSWERED = 0
 
 
+def spent(command: list) -> tuple:
+    """The processor time in seconds and the greatest memory in KiB of one run of a command that ends with status 0."""
+    process = subprocess.Popen(command)
+    _, status, used = os.wait4(process.pid, 0)
+    process.returncode = os.waitstatus_to_exitcode(status)
+    if process.returncode != 0:
+        sys.exit("%s ended with status %d" % (" ".join(command), process.returncode))
+    return used.ru_utime + used.ru_stime, used.ru_maxrss
+
+
 def message(body: bytes) -> bytes:
     head = "POST /wfs HTTP/1.1\r\nHost: h\r\nContent-Length: %d\r\n\r\n" % len(body)
     return head.encode() + body
