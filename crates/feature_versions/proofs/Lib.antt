@@ -1,0 +1,16 @@
+pub mod Alike
+pub mod Between
+pub mod Boxing
+pub mod Copying
+pub mod Counts
+pub mod Finding
+pub mod Holds
+pub mod Laying
+pub mod Naming
+pub mod Nearby
+pub mod Placing
+pub mod Rooming
+pub mod Rooms
+pub mod Standing
+pub mod Totals
+pub mod Typed

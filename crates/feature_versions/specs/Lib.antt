@@ -1,0 +1,10 @@
+pub mod Accepting
+pub mod Held
+pub mod Holding
+pub mod Layer
+pub mod Near
+pub mod Needs
+pub mod Placed
+pub mod Reserved
+pub mod Rows
+pub mod Types
