@@ -3,6 +3,8 @@
 ghost use Rattle.std.specs.Prelude.{◌≡◌, [], ℕ, List, length};
 ghost use Rattle.recovery.specs.Replay.{Verdict, Answers, taken_after};
 
+use wfs_ends::OutOfMemory;
+
 /// Why a record was not taken.
 #[derive(Clone, Copy, Debug, PartialEq, Eq)]
 pub enum ReplayFault {
@@ -11,6 +13,17 @@ pub enum ReplayFault {
     /// It is a record that does not fit the schema, or not behind those before it.
     NotOfSchema,
     OutOfMemory,
+}
+
+impl From<OutOfMemory> for ReplayFault {
+    ghost use Rattle.std.specs.Prelude.{◌≡◌};
+    ghost use Rattle.recovery.specs.declared.replay.ReplayFault.TheVariants.{OutOfMemory as NoMemory};
+
+    ghost from_gives = { λ _ fault. fault ≡ NoMemory };
+
+    fn from(_: OutOfMemory) -> ReplayFault {
+        ReplayFault::OutOfMemory
+    }
 }
 
 /// What takes the bodies of a journal's records, one after the other.

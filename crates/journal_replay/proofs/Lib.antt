@@ -1,0 +1,10 @@
+mod Again
+mod Checkpoints
+mod Gathering
+mod PieceLemmas
+mod Rebuilding
+mod Replaying
+mod Restoring
+mod Runs
+mod Taking
+mod Told
