@@ -21,8 +21,8 @@ pub use change::{Change, Part};
 pub use entry::Entry;
 pub use fault::{AskFault, StoredFault};
 pub use laws::{
-    changes_tell_what_is_kept, each_step_sets_the_moment, refused_changes_nothing,
-    steps_keep_what_is_kept_well,
+    changes_of_steps_may_be_played, changes_tell_what_is_kept, each_step_sets_the_moment,
+    playing_keeps_what_is_kept_well, refused_changes_nothing, steps_keep_what_is_kept_well,
 };
 pub use limits::{FullAt, LimitName, Limits};
 pub use link::page_link;
