@@ -1,13 +1,12 @@
 -- What is known of the bytes in the buffer holds of all that are still to be read.
-use Rattle.std.proofs.Common.{◌≡◌, ℕ, ◌+◌, ◌-◌, ◌<◌, ◌≤◌, List, [], ◌++◌, length, take, refl, sym, ap, subst, ◌∙◌, arith, append_assoc, append-nil, Option, Some, None}
+use Rattle.std.proofs.Common.{◌≡◌, ℕ, ◌+◌, ◌-◌, ◌≤◌, List, [], ◌++◌, length, take, refl, sym, ap, subst, ◌∙◌, arith, append_assoc, append-nil, Option, Some, None}
 use Rattle.std.specs.Prelude.{IfSome}
 use Rattle.std.proofs.lemmas.List.{take_all, take_at, length-append}
 use Rattle.std.proofs.Math.Seq.{take-append-add}
-use Rattle.wfs_ends.specs.Ends.{Shown, Rose}
+use Rattle.wfs_ends.specs.Ends.{Shown}
 use Rattle.http_session.specs.declared.message.Ending.TheVariants as ending
-use Rattle.httparse.specs.Grammar.{HasNoRequest}
 use Rattle.http_session.specs.Heads.{IsBad, IsUndecided, EndsWithoutHead, head_limit}
-use Rattle.http_session.specs.Reading.{after_buffer, Moved, HeadAt, IsHeadFull, IsHeadEnd, IsHeadStopped, IsHeadRead}
+use Rattle.http_session.specs.Reading.{after_buffer, Moved, HeadAt, IsHeadFull, IsHeadEnd, IsHeadRead}
 use Rattle.httparse.specs.declared.spans.HeaderSpan.{HeaderSpan}
 use Rattle.http_session.specs.declared.head.HeadRead.{HeadRead}
 use Rattle.http_session.specs.declared.head.HeadRead.TheVariants as read
@@ -60,8 +59,3 @@ end_read read.Fault a b headers before after e none h = absurd h
 
 pub bad_read : (a b : List ℕ) (left : Option (List ℕ)) → a ≡ b → length b ≤ head_limit → IsBad a → IfSome (after_buffer b left) (λ bytes. EndsWithoutHead bytes ending.BadHead)
 bad_read a b left e le bad = ahead_of (λ k. EndsWithoutHead k ending.BadHead) b left (λ more. bad_taken b more le (subst IsBad e bad))
-
-pub stopped_read : (r : HeadRead) (a b : List ℕ) (headers : List HeaderSpan) (before after : Shown) → a ≡ b → length b ≤ head_limit → Rose before.failed_takes after.failed_takes → IsHeadStopped r a headers → IsHeadRead r b headers before after
-stopped_read (read.Head spans) a b headers before after e le rose h = subst (λ (k : List ℕ). HeadAt k headers spans) e h
-stopped_read (read.Ended e') a b headers before after e le rose h = absurd h
-stopped_read read.Fault a b headers before after e le rose h = (subst HasNoRequest e h.0, subst (λ (k : List ℕ). length k < head_limit) e h.1, rose)

@@ -1,6 +1,7 @@
 pub mod Buffers
 pub mod Room
 pub mod Bad
+pub mod Watches
 pub mod Tokens
 pub mod Cuts
 pub mod HeadReads

@@ -13,12 +13,10 @@ use Rattle.http_session.specs.declared.message.Next.{Next}
 use Rattle.http_session.specs.declared.message.Next.TheVariants as next
 use Rattle.http_session.specs.declared.plan.Plan.{Plan}
 use Rattle.http_session.specs.declared.start.Start.{Start}
-use Rattle.http_session.specs.Heads.{head, no_head, head_limit, IsUndecided, EndsWithoutHead}
-use Rattle.std.specs.List.{list_all}
-use Rattle.http_session.specs.Cuts.{is_line_byte}
+use Rattle.http_session.specs.Heads.{head, no_head, head_limit, EndsWithoutHead}
 use Rattle.http_session.specs.Fields.{judged}
 use Rattle.http_session.specs.Frames.{Frame, ended, is_due, BodyFound, content, no_content, framed, IsBody, HasBody, IsFramed, IsNext}
-use Rattle.http_session.specs.Reading.{after_buffer, ahead, Moved, Reached, IsFault, HeadAt}
+use Rattle.http_session.specs.Reading.{after_buffer, ahead, Moved, Reached, IsFault, IsCalm, HeadAt}
 use Rattle.http_session.specs.Answers.{Answers, OnlyDue, Written, HasPlan, Awaits, Breaks, IsPlanned, AwaitsBody, Stays, Reads, ReadsRest, IsBodyNext, IsAsked, interim, next_of}
 use Rattle.http_session.proofs.Spots.{after_twice}
 use Rattle.http_session.proofs.Unique.{frames_of_head}
@@ -105,6 +103,7 @@ ask_failed start b b' s t (due, front) = record {
   written = (refl, record { front = front.front; rest = front.rest; parts = front.parts; given = front.given; cause = front.cause });
   breaks = (record { taken = b; parts = ap (after_buffer b) (sym front.keeps.left) }, sym due);
   stays = record { takes = omega (arith, front.keeps.takes); passed = front.keeps.passed; puts = front.keeps.puts; place = front.keeps.place };
+  calm = λ other. front.keeps.takes;
 }
   where
     each : (o : Option (List ℕ)) → IfSome o (λ bytes. OnlyDue true (HasBody start.method start.target start.plan bytes))
@@ -140,13 +139,14 @@ breaks_by plan next.OutOfMemory b s m t e fault memory read = (subst (λ left. R
 stays_by : (text : List ℕ) (s m t : Shown) → GivesAll s text m → KeepsGiven m t → Stays s t
 stays_by text s m t g k = record { takes = omega (arith, g.keeps.takes, k.takes); passed = subst (λ (p : List Given). AllGrow s.passed p) (sym k.passed) g.keeps.passed; puts = omega (arith, g.keeps.puts, k.puts); place = k.place ∙ g.keeps.place }
 
-pub rest_read : (start : Start) (a : Next) (b b' : List ℕ) (s m t : Shown) → IsAsked start.plan.due false s m → IsBodyNext start a b m b' t → KeepsGiven m t → ReadsRest start b s a b' t
-rest_read start a b b' s m t g n k = record {
+pub rest_read : (start : Start) (a : Next) (b b' : List ℕ) (s m t : Shown) → IsAsked start.plan.due false s m → IsBodyNext start a b m b' t → KeepsGiven m t → ((a ≡ next.ReadFault → ⊥) → IsCalm m t) → ReadsRest start b s a b' t
+rest_read start a b b' s m t g n k calm = record {
   due = start.plan.due;
   answers = subst (λ left. IfSome (after_buffer b left) (λ bytes. Answers (HasBody start.method start.target start.plan bytes) start.plan.due a (ahead b' t))) g.keeps.left n.answers;
   written = written_by start.plan.due a s m t g k (λ e. (n.fault e).0.cause) n.read;
   breaks = breaks_by start.plan a b s m t g.keeps.left n.fault n.memory n.read;
   stays = stays_by (interim start.plan.due) s m t g k;
+  calm = λ other. calm other ∙ g.keeps.takes;
 }
 
 -- ---- the head
@@ -182,6 +182,7 @@ head_failed b c s t m none short rose = record {
   written = (m.keeps.given ∙ given_nil s.given, rose);
   breaks = (record { taken = c; parts = sym m.same }, inl ((none, short), refl));
   stays = record { takes = m.keeps.takes; passed = subst (λ (p : List Given). AllGrow s.passed p) (sym m.keeps.passed) (all_grow s.passed); puts = let k = m.keeps.puts in omega (arith, k); place = m.keeps.place };
+  calm = λ other. absurd (other refl);
 }
 
 -- no memory for what the head says
@@ -192,6 +193,7 @@ head_memory b s = record {
   written = given_nil s.given;
   breaks = (record { taken = b; parts = refl }, λ yes. absurd cc);
   stays = stays_same s;
+  calm = λ other. refl;
 }
 
 -- the bytes end without a head
@@ -202,6 +204,7 @@ head_ended e a b s is h = record {
   written = written_none e a s is;
   breaks = breaks_none false e a (ahead b s) s is;
   stays = stays_same s;
+  calm = λ other. refl;
 }
 
 head_before : (b : List ℕ) (headers : List HeaderSpan) (spans : RequestSpans) (l : List ℕ) (at : HeadAt b headers spans) → ReadsRequest (b ++ l) at.head (drop spans.len b ++ l)
@@ -218,6 +221,7 @@ head_refused e a b headers spans s at le is refused = record {
   written = written_none e a s is;
   breaks = breaks_none false e a (ahead b s) s is;
   stays = stays_same s;
+  calm = λ other. refl;
 }
   where
     each : (left : Option (List ℕ)) → IfSome (after_buffer b left) (λ bytes. Answers (IsNext bytes) false a (ahead b s))
@@ -235,6 +239,7 @@ head_followed start a b c b' headers spans s t at le method target plan skip r =
   written = r.written;
   breaks = broken a r.breaks;
   stays = r.stays;
+  calm = r.calm;
 }
   where
     same : (rest : List ℕ) (frame : Frame) → HasBody start.method start.target start.plan rest frame → IsFramed at.head (judged at.head) rest frame
@@ -290,13 +295,14 @@ written_moved due next.ReadFault s m t k w = (w.0 ∙ ap (λ o. given_more o (in
 written_moved due next.WriteFault s m t k w =
     (w.0, record { front = w.1.front; rest = w.1.rest; parts = w.1.parts; given = w.1.given ∙ ap (λ o. given_more o w.1.front) k.given; cause = subst (λ (n : ℕ). Rose n t.failed_puts) k.puts w.1.cause })
 
-pub reads_moved : (a : Next) (b c b' : List ℕ) (s m t : Shown) → Moved b s c m → Reads c m a b' t → Reads b s a b' t
-reads_moved a b c b' s m t moved r = record {
+pub reads_moved : (a : Next) (b c b' : List ℕ) (s m t : Shown) → Moved b s c m → IsCalm s m → Reads c m a b' t → Reads b s a b' t
+reads_moved a b c b' s m t moved calm r = record {
   due = r.due;
   answers = subst (λ o. IfSome o (λ bytes. Answers (IsNext bytes) r.due a (ahead b' t))) moved.same r.answers;
   written = written_moved r.due a s m t moved.keeps r.written;
   breaks = subst (λ o. Breaks Awaits HasPlan r.due a o t) moved.same r.breaks;
   stays = record { takes = omega (arith, moved.keeps.takes, r.stays.takes); passed = subst (λ (p : List Given). AllGrow p t.passed) moved.keeps.passed r.stays.passed; puts = omega (arith, moved.keeps.puts, r.stays.puts); place = r.stays.place ∙ moved.keeps.place };
+  calm = λ other. r.calm other ∙ calm;
 }
 
 -- ---- a link's source and its sink are one
@@ -305,5 +311,5 @@ pub ask_failed_at : (start : Start) (b b' : List ℕ) (s s' t t' : Shown) → s 
 ask_failed_at start b b' s s' t t' e k h = ask_failed start b b' s t (subst (λ x. IsAsked start.plan.due true x t) (sym e) (subst (λ x. IsAsked start.plan.due true s' x) (sym k) h))
 
 pub rest_read_at : (start : Start) (a : Next) (b b' : List ℕ) (s s' m m' t : Shown) → s ≡ s' → m ≡ m' → IsAsked start.plan.due false s' m' → IsBodyNext start a b m b' t → KeepsGiven m t
-    → ReadsRest start b s a b' t
-rest_read_at start a b b' s s' m m' t e k h n keeps = rest_read start a b b' s m t (subst (λ x. IsAsked start.plan.due false x m) (sym e) (subst (λ x. IsAsked start.plan.due false s' x) (sym k) h)) n keeps
+    → ((a ≡ next.ReadFault → ⊥) → IsCalm m t) → ReadsRest start b s a b' t
+rest_read_at start a b b' s s' m m' t e k h n keeps calm = rest_read start a b b' s m t (subst (λ x. IsAsked start.plan.due false x m) (sym e) (subst (λ x. IsAsked start.plan.due false s' x) (sym k) h)) n keeps calm

@@ -7,7 +7,7 @@ use Rattle.http_session.specs.declared.message.Next.{Next}
 use Rattle.http_session.specs.declared.message.Next.TheVariants as next
 use Rattle.http_session.specs.Frames.{Frame, message, ended, is_due, no_content, IsBody, HasBody, IsNext, Sent, Frames}
 use Rattle.http_session.specs.Heads.{head, head_limit, IsHead}
-use Rattle.http_session.specs.Reading.{ahead, Reached, IsFault}
+use Rattle.http_session.specs.Reading.{ahead, Reached, IsFault, IsCalm}
 use Rattle.http_session.specs.Fields.{judged}
 use Rattle.http_session.specs.declared.plan.Plan.{Plan}
 use Rattle.http_session.specs.declared.start.Start.{Start}
@@ -99,13 +99,15 @@ pub record Stays (before after : Shown) : Type 0 where
   pub passed : AllGrow before.passed after.passed
   pub place : after.place ≡ before.place
 
--- what a call answered and wrote, where the bytes that were to be read have these frames
+-- What a call answered and wrote, where the bytes that were to be read have these frames. Where a take failed, the answer is the read
+-- fault: no message is told then, and no ending.
 pub record ReadsBy (frames : List ℕ → Frame → Type 0) (awaits plans : List ℕ → Bool → Type 0) (buffered : List ℕ) (before : Shown) (answer : Next) (buffered' : List ℕ) (after : Shown) : Type 0 where
   pub due : Bool
   pub answers : IfSome (ahead buffered before) (λ bytes. Answers (frames bytes) due answer (ahead buffered' after))
   pub written : Written due answer before after
   pub breaks : Breaks awaits plans due answer (ahead buffered before) after
   pub stays : Stays before after
+  pub calm : (answer ≡ next.ReadFault → ⊥) → IsCalm before after
 
 -- one call of the reader
 abbrev pub Reads : List ℕ → Shown → Next → List ℕ → Shown → Type 0

@@ -4,6 +4,7 @@ pub mod Fields
 pub mod Trailers
 pub mod Chunks
 pub mod Frames
+pub mod Watching
 pub mod Reading
 pub mod Lines
 pub mod Spots

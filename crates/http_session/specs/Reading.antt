@@ -40,14 +40,18 @@ pub record IsFault (ahead : Option (List ℕ)) (before after : Shown) : Type 0 w
   pub reached : Reached ahead after
   pub cause : Rose before.failed_takes after.failed_takes
 
+-- no take failed in between
+abbrev pub IsCalm : Shown → Shown → Type 0
+IsCalm before after = after.failed_takes ≡ before.failed_takes
+
 -- bytes may have moved from the link into the buffer, and nothing else changed
 pub record Moved (old : List ℕ) (before : Shown) (new : List ℕ) (after : Shown) : Type 0 where
   pub same : ahead new after ≡ ahead old before
   pub keeps : KeepsGiven before after
 
--- at the end of the input nothing is left
+-- more bytes came; or nothing is left, at the end of the input; or the link failed
 abbrev pub IsFilled : Filled → List ℕ → Shown → List ℕ → Shown → Type 0
-IsFilled filled.More old before new after = length old < length new
+IsFilled filled.More old before new after = (more : List ℕ) × (new ≡ old ++ more) × (0 < length more)
 IsFilled filled.End old before new after = (new ≡ old) × IfSome after.left (λ left. left ≡ [])
 IsFilled filled.Fault old before new after = (new ≡ old) × Rose before.failed_takes after.failed_takes
 
@@ -74,22 +78,17 @@ IsHeadRead (read.Head spans) buffered headers before after = HeadAt buffered hea
 IsHeadRead (read.Ended e) buffered headers before after = IfSome (ahead buffered after) (λ bytes. EndsWithoutHead bytes e)
 IsHeadRead read.Fault buffered headers before after = HasNoRequest buffered × (length buffered < head_limit) × Rose before.failed_takes after.failed_takes
 
--- a head that is not yet looked for says nothing
+-- bytes that no head ends in are not judged
 abbrev pub IsEarly : List ℕ → List HeaderSpan → Judged → Type 0
 IsEarly bytes headers (judged.Head spans) = HeadAt bytes headers spans
-IsEarly bytes headers judged.More = Unit {0}
+IsEarly bytes headers judged.More = HasNoRequest bytes
 IsEarly bytes headers judged.Bad = IsBad bytes
 
--- at the end of the input, where the link failed, and at the limit
+-- at the end of the input, and at the limit
 abbrev pub IsHeadEnd : HeadRead → List ℕ → List HeaderSpan → Type 0
 IsHeadEnd (read.Head spans) bytes headers = HeadAt bytes headers spans
 IsHeadEnd (read.Ended e) bytes headers = EndsWithoutHead bytes e
 IsHeadEnd read.Fault bytes headers = ⊥
-
-abbrev pub IsHeadStopped : HeadRead → List ℕ → List HeaderSpan → Type 0
-IsHeadStopped (read.Head spans) bytes headers = HeadAt bytes headers spans
-IsHeadStopped (read.Ended e) bytes headers = ⊥
-IsHeadStopped read.Fault bytes headers = HasNoRequest bytes × (length bytes < head_limit)
 
 abbrev pub IsHeadFull : HeadRead → List ℕ → List HeaderSpan → Type 0
 IsHeadFull (read.Head spans) bytes headers = HeadAt bytes headers spans

@@ -1,7 +1,7 @@
 //! A body of a stated length.
 ghost use Rattle.std.specs.Prelude.{◌≡◌, ◌+◌, ◌<◌, ◌≤◌, length, take, min, IfSome};
 ghost use Rattle.wfs_ends.specs.Ends.{KeepsGiven};
-ghost use Rattle.http_session.specs.Reading.{IsFull, IsRest, IsBodyRead};
+ghost use Rattle.http_session.specs.Reading.{IsFull, IsRest, IsBodyRead, IsCalm};
 ghost use Rattle.http_session.specs.declared.plan.Body.TheVariants as way;
 
 use crate::buffer::{Buffer, take_behind};
@@ -36,6 +36,7 @@ pub(crate) fn read_sized<S: Source>(
 ) -> BodyRead
     ensures read { IsBodyRead (way.Sized size) result buffer.old (S.source source.old) buffer.new (S.source source.new) }
     ensures keeps { KeepsGiven (S.source source.old) (S.source source.new) }
+    ensures calm { (result ≡ BodyRead.Fault → ⊥) → IsCalm (S.source source.old) (S.source source.new) }
 {
     let Ok(mut content) = vec![in alloc; 0; size] else {
         return BodyRead::OutOfMemory;
@@ -52,6 +53,7 @@ fn fill_body<S: Source>(body: &mut [u8], buffer: &mut Buffer, source: &mut S) ->
     ensures len { length body.new ≡ length body.old }
     ensures full { IsFull result body.new buffer.old (S.source source.old) buffer.new (S.source source.new) }
     ensures keeps { KeepsGiven (S.source source.old) (S.source source.new) }
+    ensures calm { (result ≡ Full.Fault → ⊥) → IsCalm (S.source source.old) (S.source source.new) }
 {
     let held = copy_front(body, buffer.bytes());
     buffer.skip(held);
@@ -78,6 +80,7 @@ fn read_rest<S: Source>(body: &mut [u8], start: usize, source: &mut S) -> Full
     ensures len { length body.new ≡ length body.old }
     ensures rest { IsRest result start body.old (S.source source.old) body.new (S.source source.new) }
     ensures keeps { KeepsGiven (S.source source.old) (S.source source.new) }
+    ensures calm { (result ≡ Full.Fault → ⊥) → IsCalm (S.source source.old) (S.source source.new) }
 {
     let mut filled = start;
     while filled < body.len() {

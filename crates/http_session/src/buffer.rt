@@ -1,7 +1,7 @@
 //! The bytes that were taken and not yet used.
-ghost use Rattle.std.specs.Prelude.{◌≡◌, ◌+◌, ◌-◌, ◌<◌, ◌≤◌, ◌++◌, [], length, take, drop, IfOk, IfSome, OnErr, Ok};
+ghost use Rattle.std.specs.Prelude.{◌≡◌, ◌+◌, ◌-◌, ◌<◌, ◌≤◌, ◌++◌, [], length, take, drop, IfOk, IfSome, OnOk, OnErr, Ok};
 ghost use Rattle.wfs_ends.specs.Ends.{KeepsGiven, Rose, left_after};
-ghost use Rattle.http_session.specs.Reading.{Moved, IsFilled};
+ghost use Rattle.http_session.specs.Reading.{Moved, IsFilled, IsCalm};
 
 use std::alloc::Global;
 use std::marker::Model;
@@ -69,6 +69,7 @@ impl Buffer {
         requires { length self.old < 16384 }
         ensures moved { Moved self.old (S.source source.old) self.new (S.source source.new) }
         ensures filled { IsFilled result self.old (S.source source.old) self.new (S.source source.new) }
+        ensures calm { (result ≡ Filled.Fault → ⊥) → IsCalm (S.source source.old) (S.source source.new) }
     {
         let (start, taken) = refill(&mut self.bytes, self.start, self.end, source);
         self.end = start + (self.end - self.start);
@@ -105,6 +106,7 @@ fn refill<S: Source>(
     ensures ends { result.1 ≡ Ok 0 → IfSome (S.source source.old).left (λ left. left ≡ []) }
     ensures err { OnErr result.1 ((S.source source.new).left ≡ (S.source source.old).left) }
     ensures cause { OnErr result.1 (Rose (S.source source.old).failed_takes (S.source source.new).failed_takes) }
+    ensures calm { OnOk result.1 (IsCalm (S.source source.old) (S.source source.new)) }
     ensures keeps { KeepsGiven (S.source source.old) (S.source source.new) }
 {
     let held = end - start;
@@ -128,6 +130,7 @@ pub(crate) fn take_behind<S: Source>(
     ensures ends { result ≡ Ok 0 → IfSome (S.source source.old).left (λ left. left ≡ []) }
     ensures err { OnErr result ((S.source source.new).left ≡ (S.source source.old).left) }
     ensures cause { OnErr result (Rose (S.source source.old).failed_takes (S.source source.new).failed_takes) }
+    ensures calm { OnOk result (IsCalm (S.source source.old) (S.source source.new)) }
     ensures keeps { KeepsGiven (S.source source.old) (S.source source.new) }
 {
     source.take(&mut bytes[end..])

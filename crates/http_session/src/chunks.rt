@@ -3,7 +3,7 @@ ghost use Rattle.std.specs.Prelude.{◌≡◌, ◌<◌, ◌≤◌, length, List,
 ghost use Rattle.wfs_ends.specs.Ends.{KeepsGiven};
 ghost use Rattle.http_session.specs.Spots.{spot, IsLineRead, IsTurn, IsCopied, after_trailer, trailer_step, turn_of};
 ghost use Rattle.http_session.specs.Chunks.{stops, chunk_of, after_data, after_return};
-ghost use Rattle.http_session.specs.Reading.{IsBodyRead};
+ghost use Rattle.http_session.specs.Reading.{IsBodyRead, IsCalm};
 ghost use Rattle.http_session.specs.declared.plan.Body.TheVariants as way;
 ghost use Rattle.http_session.specs.declared.chunks.Begun.TheVariants as begun;
 ghost use Rattle.http_session.specs.declared.chunks.ChunkRead.TheVariants as chunkread;
@@ -60,6 +60,7 @@ pub(crate) fn read_chunked<S: Source>(
 ) -> BodyRead
     ensures read { IsBodyRead way.Chunked result buffer.old (S.source source.old) buffer.new (S.source source.new) }
     ensures keeps { KeepsGiven (S.source source.old) (S.source source.new) }
+    ensures calm { (result ≡ BodyRead.Fault → ⊥) → IsCalm (S.source source.old) (S.source source.new) }
 {
     let mut content = Vec::new(alloc);
     let mut allowed = SENT_LIMIT;
@@ -85,6 +86,7 @@ fn read_chunk<S: Source>(
     ensures turn { IsTurn (λ w. turn_of content.old.items (line_of w)) result content.new.items (S.source source.old) (spot allowed.old buffer.old (S.source source.old)) (S.source source.new) (spot allowed.new buffer.new (S.source source.new)) }
     ensures within { result ≡ chunkread.More → length content.new.items ≤ 4194304 }
     ensures keeps { KeepsGiven (S.source source.old) (S.source source.new) }
+    ensures calm { (result ≡ ChunkRead.Fault → ⊥) → IsCalm (S.source source.old) (S.source source.new) }
 {
     match read_line(buffer, source, allowed) {
         LineRead::Line(0) => read_trailer(buffer, source, allowed),
@@ -100,6 +102,7 @@ fn read_trailer<S: Source>(buffer: &mut Buffer, source: &mut S, allowed: &mut u6
     ensures turn { (content : List ℕ) → IsTurn (λ w. stops (after_trailer content begun.Nothing w)) result content (S.source source.old) (spot allowed.old buffer.old (S.source source.old)) (S.source source.new) (spot allowed.new buffer.new (S.source source.new)) }
     ensures end { result ≡ chunkread.More → ⊥ }
     ensures keeps { KeepsGiven (S.source source.old) (S.source source.new) }
+    ensures calm { (result ≡ ChunkRead.Fault → ⊥) → IsCalm (S.source source.old) (S.source source.new) }
 {
     let mut line = Begun::Nothing;
     loop {
@@ -139,6 +142,7 @@ fn read_data<S: Source>(
     ensures turn { IsTurn (chunk_of content.old.items size) result content.new.items (S.source source.old) (spot allowed.old buffer.old (S.source source.old)) (S.source source.new) (spot allowed.new buffer.new (S.source source.new)) }
     ensures within { result ≡ chunkread.More → length content.new.items ≤ 4194304 }
     ensures keeps { KeepsGiven (S.source source.old) (S.source source.new) }
+    ensures calm { (result ≡ ChunkRead.Fault → ⊥) → IsCalm (S.source source.old) (S.source source.new) }
 {
     let mut left = size;
     while left > 0 {
@@ -190,6 +194,7 @@ fn copy_data(
 fn read_end<S: Source>(buffer: &mut Buffer, source: &mut S, allowed: &mut u64) -> ChunkRead
     ensures turn { (content : List ℕ) → IsTurn (after_data content) result content (S.source source.old) (spot allowed.old buffer.old (S.source source.old)) (S.source source.new) (spot allowed.new buffer.new (S.source source.new)) }
     ensures keeps { KeepsGiven (S.source source.old) (S.source source.new) }
+    ensures calm { (result ≡ ChunkRead.Fault → ⊥) → IsCalm (S.source source.old) (S.source source.new) }
 {
     match next_byte(buffer, source, allowed) {
         Byte::Next(b'\r') => read_line_feed(buffer, source, allowed),
@@ -203,6 +208,7 @@ fn read_end<S: Source>(buffer: &mut Buffer, source: &mut S, allowed: &mut u64) -
 fn read_line_feed<S: Source>(buffer: &mut Buffer, source: &mut S, allowed: &mut u64) -> ChunkRead
     ensures turn { (content : List ℕ) → IsTurn (after_return content) result content (S.source source.old) (spot allowed.old buffer.old (S.source source.old)) (S.source source.new) (spot allowed.new buffer.new (S.source source.new)) }
     ensures keeps { KeepsGiven (S.source source.old) (S.source source.new) }
+    ensures calm { (result ≡ ChunkRead.Fault → ⊥) → IsCalm (S.source source.old) (S.source source.new) }
 {
     match next_byte(buffer, source, allowed) {
         Byte::Next(b'\n') => ChunkRead::More,
@@ -216,6 +222,7 @@ fn read_line_feed<S: Source>(buffer: &mut Buffer, source: &mut S, allowed: &mut 
 fn read_line<S: Source>(buffer: &mut Buffer, source: &mut S, allowed: &mut u64) -> LineRead
     ensures line { IsLineRead line_of result (S.source source.old) (spot allowed.old buffer.old (S.source source.old)) (S.source source.new) (spot allowed.new buffer.new (S.source source.new)) }
     ensures keeps { KeepsGiven (S.source source.old) (S.source source.new) }
+    ensures calm { (result ≡ LineRead.Fault → ⊥) → IsCalm (S.source source.old) (S.source source.new) }
 {
     let mut state = LineState::start();
     loop {

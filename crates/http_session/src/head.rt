@@ -4,7 +4,8 @@ ghost use Rattle.std.specs.List.{list_all};
 ghost use Rattle.httparse.specs.Grammar.{HasNoRequest};
 ghost use Rattle.http_session.specs.Heads.{IsUndecided, EndsWithoutHead, SplitsTarget, after_space};
 ghost use Rattle.http_session.specs.Cuts.{StartsOutside, Cut, is_of};
-ghost use Rattle.http_session.specs.Reading.{Moved, IsStep, IsJudged, IsEarly, IsHeadEnd, IsHeadStopped, IsHeadFull, IsHeadRead};
+ghost use Rattle.http_session.specs.Watching.{HasJudged};
+ghost use Rattle.http_session.specs.Reading.{Moved, IsStep, IsJudged, IsCalm, IsEarly, IsHeadEnd, IsHeadFull, IsHeadRead};
 
 use crate::buffer::{Buffer, Filled, ROOM};
 use crate::cut::{Class, split_run};
@@ -63,6 +64,7 @@ pub(crate) fn read_head<S: Source>(
     ensures room { length headers.new ≡ 5500 }
     ensures moved { Moved buffer.old (S.source source.old) buffer.new (S.source source.new) }
     ensures read { IsHeadRead result buffer.new headers.new (S.source source.old) (S.source source.new) }
+    ensures calm { (result ≡ HeadRead.Fault → ⊥) → IsCalm (S.source source.old) (S.source source.new) }
 {
     let mut watch = Watch::new();
     while buffer.bytes().len() < ROOM {
@@ -74,18 +76,20 @@ pub(crate) fn read_head<S: Source>(
         match buffer.fill(source) {
             Filled::More => {}
             Filled::End => return judge_at_end(buffer.bytes(), headers),
-            Filled::Fault => return judge_at_fault(buffer.bytes(), headers),
+            Filled::Fault => return HeadRead::Fault,
         }
     }
     judge_when_full(buffer.bytes(), headers)
 }
 
-/// Looks for a head where one may be complete, and answers `More` elsewhere.
+/// Looks for a head where one may be complete, and answers `More` elsewhere, where none ends.
 fn judge_when_due(bytes: &[u8], watch: &mut Watch, headers: &mut [HeaderSpan]) -> Judged
     requires within { length bytes.now ≤ 16384 }
+    requires seen { HasJudged watch.old bytes.now }
     requires room { length headers.old ≡ 5500 }
     ensures room { length headers.new ≡ 5500 }
     ensures judged { IsEarly bytes.now headers.new result }
+    ensures seen { result ≡ Judged.More → HasJudged watch.new bytes.now }
 {
     if watch.is_due(bytes) {
         judge(bytes, target_space(bytes), headers)
@@ -105,21 +109,6 @@ fn judge_at_end(bytes: &[u8], headers: &mut [HeaderSpan]) -> HeadRead
         Judged::Head(spans) => HeadRead::Head(spans),
         Judged::Bad => HeadRead::Ended(Ending::BadHead),
         Judged::More => HeadRead::Ended(end_of(bytes)),
-    }
-}
-
-/// Judges the bytes that came before the link failed. A head among them is told first; without one the fault is told,
-/// also where no head can come of them.
-fn judge_at_fault(bytes: &[u8], headers: &mut [HeaderSpan]) -> HeadRead
-    requires within { length bytes.now < 16384 }
-    requires room { length headers.old ≡ 5500 }
-    ensures room { length headers.new ≡ 5500 }
-    ensures read { IsHeadStopped result bytes.now headers.new }
-{
-    match step_at(bytes, headers) {
-        Step::Head(spans) => HeadRead::Head(spans),
-        Step::More => HeadRead::Fault,
-        Step::Never => HeadRead::Fault,
     }
 }
 

@@ -2,7 +2,7 @@
 ghost use Rattle.std.specs.Prelude.{◌≡◌, ◌≤◌, [], length, drop, All, IfOk, Some, IfSome, take};
 ghost use Rattle.wfs_ends.specs.Ends.{KeepsGiven};
 ghost use Rattle.http_session.specs.Answers.{Reads, ReadsRest, IsBodyNext, IsAsked, HasOneNext, HasOneReading, next_of};
-ghost use Rattle.http_session.specs.Reading.{HeadAt, IsBodyRead};
+ghost use Rattle.http_session.specs.Reading.{HeadAt, IsBodyRead, IsCalm};
 
 use crate::body::{BodyRead, read_sized};
 use crate::buffer::Buffer;
@@ -50,10 +50,11 @@ impl Reader {
     /// Reads the next message (RFC 9112), and writes the line `100 Continue` where its sender waits for it, before the
     /// body is read. Whatever pieces the link gives, the answers are those of all its bytes.
     ///
-    /// `ReadFault` and `WriteFault` come only where the link counted a failure on that side. At `ReadFault` the bytes
-    /// that were taken hold no whole message: no head, also where no head can come of them and that was not answered
-    /// before, or a head and a part of its body, and the line was written just where that head asks for it. At
-    /// `WriteFault` they hold a head that asks for it. After anything but a message the reader is not called again.
+    /// `ReadFault` and `WriteFault` come only where the link counted a failure on that side, and where a take failed,
+    /// `ReadFault` is the answer. At `ReadFault` the bytes that were taken hold no whole message: no head, also where no
+    /// head can come of them and that was not answered before, or a head and a part of its body, and the line was written
+    /// just where that head asks for it. At `WriteFault` they hold a head that asks for it. After anything but a message
+    /// the reader is not called again.
     pub fn next_message<L: Link>(&mut self, alloc: Global, link: &mut L) -> Next
         ensures { Reads self.old (L.Source.source link.old) result self.new (L.Source.source link.new) }
     {
@@ -125,6 +126,7 @@ fn fails_to_ask<S: Sink>(sink: &mut S, is_due: bool) -> bool
 fn read_body<S: Source>(alloc: Global, buffer: &mut Buffer, start: Start, source: &mut S) -> Next
     ensures read { IsBodyNext start result buffer.old (S.source source.old) buffer.new (S.source source.new) }
     ensures keeps { KeepsGiven (S.source source.old) (S.source source.new) }
+    ensures calm { (result ≡ Next.ReadFault → ⊥) → IsCalm (S.source source.old) (S.source source.new) }
 {
     let Start {
         method,
@@ -153,6 +155,7 @@ fn read_content<S: Source>(
 ) -> BodyRead
     ensures read { IsBodyRead body result buffer.old (S.source source.old) buffer.new (S.source source.new) }
     ensures keeps { KeepsGiven (S.source source.old) (S.source source.new) }
+    ensures calm { (result ≡ BodyRead.Fault → ⊥) → IsCalm (S.source source.old) (S.source source.new) }
 {
     match body {
         Body::Sized(size) => read_sized(alloc, buffer, source, size),

@@ -8,7 +8,7 @@ use Rattle.http_session.specs.declared.message.Ending.{Ending}
 use Rattle.http_session.specs.declared.message.Message.{Message}
 use Rattle.http_session.specs.declared.message.Next.TheVariants as next
 use Rattle.http_session.specs.Frames.{ended, IsNext}
-use Rattle.http_session.specs.Reading.{ahead, after_buffer, Reached}
+use Rattle.http_session.specs.Reading.{ahead, after_buffer, Reached, IsCalm}
 use Rattle.http_session.specs.Answers.{Reads, Answers, interim}
 use Rattle.reply_documents.specs.Refusals.{fixed_text}
 use Rattle.session_workers.specs.declared.answered.Answered.{Answered}
@@ -115,22 +115,28 @@ module _ {S : Type 0} (mean : Meaning S) (service : S) (last : Bool) (b : List �
         left = tt;
       }
 
+  calm_read : IsCalm s0 s1
+  calm_read = reads.calm (λ e. absurd cc)
+
   pub answered_round : (r : Result Bool WriteFault) (service' : S) (c' : Option (List ℕ)) (s2 : Shown) → Replies mean service m last c s1 r service' c' s2 → IsRound mean last b s0 c service (round_of r) b' s2 c' service'
   answered_round (Ok false) service' c' s2 replies = record {
     stays = stays_on s0 s1 s2 reads.stays.takes reads.stays.puts reads.stays.place replies.gives.0.keeps;
     cause = not_last m.close last (sym replies.gives.1);
+    calm = replies.gives.0.keeps.takes ∙ calm_read;
     becomes = replies.becomes;
     told = λ first p left is_last at. goes_on (Ok false) service' c' s2 replies first p left is_last at replies.gives.0 replies.gives.1;
   }
   answered_round (Ok true) service' c' s2 replies = record {
     stays = stays_on s0 s1 s2 reads.stays.takes reads.stays.puts reads.stays.place replies.gives.0.keeps;
     cause = tt;
+    calm = λ other. replies.gives.0.keeps.takes ∙ calm_read;
     becomes = replies.becomes;
     told = λ first p left is_last at. is_over (Ok true) service' c' s2 replies first p left is_last at replies.gives.0 replies.gives.1;
   }
   answered_round (Err fault) service' c' s2 replies = record {
     stays = stays_on s0 s1 s2 reads.stays.takes reads.stays.puts reads.stays.place replies.gives.keeps;
     cause = omega (arith, reads.stays.puts, replies.gives.cause);
+    calm = λ other. replies.gives.keeps.takes ∙ calm_read;
     becomes = replies.becomes;
     told = λ first p left is_last at. failed (Err fault) service' c' s2 replies first p left is_last at replies.gives;
   }
@@ -159,6 +165,7 @@ module _ {S : Type 0} (mean : Meaning S) (service : S) (becomes : Becomes mean s
   ended_round reads = record {
     stays = record { takes = reads.stays.takes; puts = reads.stays.puts; place = reads.stays.place };
     cause = tt;
+    calm = λ other. reads.calm (λ e. absurd cc);
     becomes = becomes;
     told = λ first p left is_last at. record {
       final = final end.Ended p (interim reads.due);
@@ -175,6 +182,7 @@ module _ {S : Type 0} (mean : Meaning S) (service : S) (becomes : Becomes mean s
   cut_round reads = record {
     stays = record { takes = reads.stays.takes; puts = reads.stays.puts; place = reads.stays.place };
     cause = tt;
+    calm = λ other. reads.calm (λ e. absurd cc);
     becomes = becomes;
     told = λ first p left is_last at. record {
       final = final end.Cut p (interim reads.due);
@@ -191,6 +199,7 @@ module _ {S : Type 0} (mean : Meaning S) (service : S) (becomes : Becomes mean s
   read_failed_round reads = record {
     stays = record { takes = reads.stays.takes; puts = reads.stays.puts; place = reads.stays.place };
     cause = reads.written.1;
+    calm = λ other. absurd (other refl);
     becomes = becomes;
     told = λ first p left is_last at.
         let behind = parted p.bytes _ s1 reads.breaks.0 at.bytes in
@@ -209,6 +218,7 @@ module _ {S : Type 0} (mean : Meaning S) (service : S) (becomes : Becomes mean s
   line_failed_round reads = let gave = reads.written.1 in record {
     stays = record { takes = reads.stays.takes; puts = reads.stays.puts; place = reads.stays.place };
     cause = gave.cause;
+    calm = λ other. reads.calm (λ e. absurd cc);
     becomes = becomes;
     told = λ first p left is_last at.
         let behind = parted p.bytes _ s1 reads.breaks.0 at.bytes in
@@ -223,11 +233,12 @@ module _ {S : Type 0} (mean : Meaning S) (service : S) (becomes : Becomes mean s
         };
   }
 
-  module _ (e : Ending) (row : ℕ) (is_row : row_of e ≡ Some row) (due : Bool) (is_next : IfSome (ahead b s0) (λ bytes. IsNext bytes (ended e due))) (written : s1.given ≡ given_more s0.given (interim due)) (takes : s0.failed_takes ≤ s1.failed_takes) (puts : s0.failed_puts ≤ s1.failed_puts) (place : s1.place ≡ s0.place) where
+  module _ (e : Ending) (row : ℕ) (is_row : row_of e ≡ Some row) (due : Bool) (is_next : IfSome (ahead b s0) (λ bytes. IsNext bytes (ended e due))) (written : s1.given ≡ given_more s0.given (interim due)) (takes : s0.failed_takes ≤ s1.failed_takes) (puts : s0.failed_puts ≤ s1.failed_puts) (place : s1.place ≡ s0.place) (calm : IsCalm s0 s1) where
     pub refused_round : (r : Round) (s2 : Shown) → IsRefused row s1 r s2 → IsRound mean last b s0 c service r b' s2 c service
     refused_round (round.Over end.Unframed) s2 g = record {
       stays = stays_on s0 s1 s2 takes puts place g.keeps;
       cause = tt;
+      calm = λ other. g.keeps.takes ∙ calm;
       becomes = becomes;
       told = λ first p left is_last at. record {
         final = final end.Unframed p (interim due ++ fixed_text row true);
@@ -242,6 +253,7 @@ module _ {S : Type 0} (mean : Meaning S) (service : S) (becomes : Becomes mean s
     refused_round (round.Over end.WriteFault) s2 g = record {
       stays = stays_on s0 s1 s2 takes puts place g.keeps;
       cause = omega (arith, puts, g.cause);
+      calm = λ other. g.keeps.takes ∙ calm;
       becomes = becomes;
       told = λ first p left is_last at. record {
         final = final end.WriteFault p (interim due ++ g.front);
@@ -265,6 +277,7 @@ module _ {S : Type 0} (mean : Meaning S) (service : S) (becomes : Becomes mean s
     gave_up_round (round.Over end.NoMemory) s2 g = record {
       stays = stays_on s0 s1 s2 reads.stays.takes reads.stays.puts reads.stays.place g.keeps;
       cause = tt;
+      calm = λ other. g.keeps.takes ∙ reads.calm (λ e. absurd cc);
       becomes = becomes;
       told = λ first p left is_last at.
           let behind = parted p.bytes _ s1 reads.breaks.0 at.bytes in
@@ -281,6 +294,7 @@ module _ {S : Type 0} (mean : Meaning S) (service : S) (becomes : Becomes mean s
     gave_up_round (round.Over end.WriteFault) s2 g = record {
       stays = stays_on s0 s1 s2 reads.stays.takes reads.stays.puts reads.stays.place g.keeps;
       cause = omega (arith, reads.stays.puts, g.cause);
+      calm = λ other. g.keeps.takes ∙ reads.calm (λ e. absurd cc);
       becomes = becomes;
       told = λ first p left is_last at.
           let behind = parted p.bytes _ s1 reads.breaks.0 at.bytes in

@@ -3,6 +3,7 @@ use Rattle.std.proofs.Common.{◌≡◌, ℕ, ◌-◌, ◌<◌, false, List, [],
 use Rattle.std.specs.Prelude.{◌==◌, IfSome}
 use Rattle.wfs_ends.specs.Ends.{Shown}
 use Rattle.wfs_ends.proofs.Given.{given_nil}
+use Rattle.http_session.specs.Reading.{IsCalm}
 use Rattle.session_workers.specs.declared.ending.SessionEnd.{SessionEnd}
 use Rattle.session_workers.specs.declared.ending.SessionEnd.TheVariants as end
 use Rattle.session_workers.specs.declared.round.Round.TheVariants as round
@@ -37,6 +38,7 @@ pub record Stands {S : Type 0} (mean : Meaning S) (input ms : List ℕ) (first :
 pub record UnderWay {S : Type 0} (mean : Meaning S) (c0 : Option (List ℕ)) (first : S) (s0 : Shown) (buffered : List ℕ) (s : Shown) (moments : Option (List ℕ)) (service : S) (left : ℕ) : Type 0 where
   pub some : 0 < left
   pub stays : Stays s0 s
+  pub calm : IsCalm s0 s
   pub becomes : Becomes mean first service
   pub told : WhereTold c0 s0 (λ input ms. Stands mean input ms first s0 buffered s moments service left)
 
@@ -48,6 +50,7 @@ pub begins_session : {S : Type 0} (mean : Meaning S) (c0 : Option (List ℕ)) (f
 begins_session mean c0 first s0 buffered leads e = record {
   some = omega arith;
   stays = record { takes = omega arith; puts = omega arith; place = refl };
+  calm = refl;
   becomes = stays_so mean first leads;
   told = told_is c0 s0 (λ input ms is_input is_ms. record {
     point = begun input ms first;
@@ -79,6 +82,7 @@ module _ {S : Type 0} (mean : Meaning S) (follows : (x y z : S) → mean.leads x
   goes_on r = record {
     some = not_one left r.cause way.some;
     stays = stays_twice s0 s s' way.stays r.stays;
+    calm = r.calm ∙ way.calm;
     becomes = became r.becomes;
     told = told_map c0 s0 (λ input ms stands.
         let went = r.told s0.given stands.point left refl stands.at in
@@ -88,6 +92,7 @@ module _ {S : Type 0} (mean : Meaning S) (follows : (x y z : S) → mean.leads x
   pub is_over : (e : SessionEnd) → IsRound mean (left == 1) b s c service (round.Over e) b' s' c' service' → IsSession mean c0 first s0 e service' c' s'
   is_over e r = record {
     cause = cause_before e s0 s s' way.stays r.cause;
+    calm = λ other. r.calm other ∙ way.calm;
     place = (stays_twice s0 s s' way.stays r.stays).place;
     becomes = became r.becomes;
     told = told_map c0 s0 (λ input ms stands.

@@ -3,6 +3,7 @@ use Rattle.std.specs.Prelude.{◌≡◌, ℕ, ◌-◌, ◌==◌, ◌||◌, Bool,
 use Rattle.wfs_ends.specs.Ends.{Given, Shown, GivesAll, GivesFront, later}
 use Rattle.wfs_ends.specs.declared.fault.WriteFault.{WriteFault}
 use Rattle.http_session.specs.declared.message.Message.{Message}
+use Rattle.http_session.specs.Reading.{IsCalm}
 use Rattle.reply_documents.specs.Refusals.{fixed_text}
 use Rattle.session_workers.specs.declared.answered.Answered.{Answered}
 use Rattle.session_workers.specs.declared.ending.SessionEnd.TheVariants as end
@@ -10,7 +11,7 @@ use Rattle.session_workers.specs.declared.round.Round.{Round}
 use Rattle.session_workers.specs.declared.round.Round.TheVariants as round
 use Rattle.session_workers.specs.declared.service.Service.{Ghosts as Meaning}
 use Rattle.session_workers.specs.Answers.{answer_text}
-use Rattle.session_workers.specs.Session.{Point, Stays, HasCause, Becomes, IsAt, GoesOn, IsOver}
+use Rattle.session_workers.specs.Session.{Point, Stays, HasCause, IsCalmBut, Becomes, IsAt, GoesOn, IsOver}
 
 -- an answer was given, with whether it closes the session, or a front of it, and then the output failed
 abbrev pub GivesAnswer : Result Bool WriteFault → Shown → List ℕ → Bool → Shown → Type 0
@@ -36,10 +37,15 @@ abbrev pub RoundCause : Round → Bool → Shown → Shown → Type 0
 RoundCause round.On last old new = last ≡ false
 RoundCause (round.Over e) last old new = HasCause e old new
 
+abbrev pub IsCalmRound : Round → Shown → Shown → Type 0
+IsCalmRound round.On old new = IsCalm old new
+IsCalmRound (round.Over e) old new = IsCalmBut e old new
+
 -- a round: the last one goes on in no case
 pub record IsRound {S : Type 0} (mean : Meaning S) (last : Bool) (old : List ℕ) (before : Shown) (moments : Option (List ℕ)) (service : S) (r : Round) (new : List ℕ) (after : Shown) (moments' : Option (List ℕ)) (service' : S) : Type 0 where
   pub stays : Stays before after
   pub cause : RoundCause r last before after
+  pub calm : IsCalmRound r before after
   pub becomes : Becomes mean service service'
   pub told : (first : Given) (p : Point S) (left : ℕ) → (left == 1) ≡ last → IsAt first p old before moments service left → HasGone mean first p r new after moments' service' (left - 1)
 

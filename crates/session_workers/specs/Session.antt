@@ -6,7 +6,7 @@ use Rattle.http_session.specs.declared.message.Ending.TheVariants as ending
 use Rattle.http_session.specs.declared.message.Message.{Message}
 use Rattle.http_session.specs.Frames.{message, ended, IsNext}
 use Rattle.http_session.specs.Answers.{interim, continue_line, Awaits, HasPlan}
-use Rattle.http_session.specs.Reading.{ahead}
+use Rattle.http_session.specs.Reading.{ahead, IsCalm}
 use Rattle.reply_documents.specs.Refusals.{fixed_text}
 use Rattle.session_workers.specs.declared.answered.Answered.{Answered}
 use Rattle.session_workers.specs.declared.ending.SessionEnd.{SessionEnd}
@@ -126,6 +126,10 @@ HasCause end.Unframed old new = ⊤
 HasCause end.Cut old new = ⊤
 HasCause end.NoMemory old new = ⊤
 
+-- a take failed in no session that ended otherwise than by a read fault
+abbrev pub IsCalmBut : SessionEnd → Shown → Shown → Type 0
+IsCalmBut e old new = (e ≡ end.ReadFault → ⊥) → IsCalm old new
+
 -- what became of a service: what always may, and its schema is the same
 pub record Becomes {S : Type 0} (mean : Meaning S) (service service' : S) : Type 0 where
   pub leads : mean.leads service service'
@@ -148,9 +152,10 @@ pub record IsHeld {S : Type 0} (mean : Meaning S) (input moments : List ℕ) (se
 abbrev pub WhereTold : Option (List ℕ) → Shown → (List ℕ → List ℕ → Type 0) → Type 0
 WhereTold moments old P = IfSome moments (λ ms. IfSome old.left (λ input. P input ms))
 
--- A session. What became of the service, and a fault's cause, are said also where the input or the clock do not tell.
+-- A session. What became of the service, and the causes of its end, are said also where the input or the clock do not tell.
 pub record IsSession {S : Type 0} (mean : Meaning S) (moments : Option (List ℕ)) (service : S) (old : Shown) (e : SessionEnd) (service' : S) (moments' : Option (List ℕ)) (new : Shown) : Type 0 where
   pub cause : HasCause e old new
+  pub calm : IsCalmBut e old new
   pub place : new.place ≡ old.place
   pub becomes : Becomes mean service service'
   pub told : WhereTold moments old (λ input ms. IsHeld mean input ms service old e service' moments' new)

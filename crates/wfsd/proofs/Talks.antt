@@ -1,15 +1,18 @@
 -- What a session over two ends comes to, and lines that are given.
-use Rattle.std.proofs.Common.{◌≡◌, ℕ, Bool, true, false, List, [], ◌∷◌, Option, Result, Ok, Err, inl, inr, ap}
+use Rattle.std.proofs.Common.{◌≡◌, ℕ, Bool, true, false, List, [], ◌∷◌, Option, Some, None, Result, Ok, Err, inl, inr, ap}
+use Rattle.std.specs.Prelude.{IfSome}
 use base.Fml.{GName}
 use Rattle.wfs_ends.specs.Ends.{Shown, Writes, Gives, lent}
-use Rattle.wfsd.specs.declared.ending.SessionEnd.{SessionEnd}
-use Rattle.wfsd.specs.declared.ending.SessionEnd.TheVariants as end
-use Rattle.wfsd.specs.Served.{Served}
-use Rattle.wfsd.specs.Session.{HasCause, IsSession}
-use Rattle.std.specs.Prelude.{IfSome}
 use Rattle.feature_values.specs.declared.schema.Schema.{Schema}
-use Rattle.wfsd.specs.Talk.{GivesOr, Ends, link_old, link_new, loaded, Talks, held, no_memory, IsTalkOver}
-use Rattle.wfsd.proofs.Sessions.{told_map}
+use Rattle.std.proofs.lemmas.List.Elements.{All-nil}
+use Rattle.message_asks.specs.Verdicts.{Served, first_served, IsEntryOf, HasLegalHistory}
+use Rattle.message_asks.proofs.Growing.{legal_still, own_still}
+use Rattle.session_workers.specs.declared.ending.SessionEnd.{SessionEnd}
+use Rattle.session_workers.specs.declared.ending.SessionEnd.TheVariants as end
+use Rattle.session_workers.specs.Session.{HasCause, IsSession}
+use Rattle.session_workers.proofs.Sessions.{told_map}
+use Rattle.wfsd.specs.Served.{own_seat, desk_meaning}
+use Rattle.wfsd.specs.Talk.{GivesOr, HeldBy, HasOwnEntries}
 
 -- a line, whole or in part
 by_failed : (f : Bool) (old new : Shown) (text : List ℕ) → Writes (record { shown = old; failed = false }) text (record { shown = new; failed = f }) → GivesOr old text new
@@ -38,15 +41,21 @@ behind_two [] = []
 behind_two (a ∷ []) = []
 behind_two (a ∷ b ∷ names) = names
 
-pub session_lent : (moments : Option (List ℕ)) (served served' : Served) (e : SessionEnd) (a b c d : GName) (old new : Shown) → IsSession moments served (lent a b old) e served' (lent c d new) → IsSession moments served old e served' new
-session_lent moments served served' e a b c d old new s = record {
+pub session_lent : (moments moments' : Option (List ℕ)) (served served' : Served) (e : SessionEnd) (a b c d : GName) (old new : Shown)
+    → IsSession desk_meaning moments served (lent a b old) e served' moments' (lent c d new) → IsSession desk_meaning moments served old e served' moments' new
+session_lent moments moments' served served' e a b c d old new s = record {
   cause = cause_lent e a b c d old new s.cause;
+  calm = s.calm;
   place = ap behind_two s.place;
-  told = told_map moments old (λ input ms held. record { point = held.point; reaches = held.reaches; final = held.final; finishes = held.finishes; end = held.end; given = held.given; serves = held.serves; left = held.left }) s.told;
+  becomes = s.becomes;
+  told = told_map moments old (λ input ms held. record { point = held.point; reaches = held.reaches; final = held.final; finishes = held.finishes; end = held.end; given = held.given; serves = held.serves; coming = held.coming; left = held.left }) s.told;
 }
 
--- a session by a schema that was read
-pub talked : (status : ℕ) (moments : Option (List ℕ)) (ends : Ends) (desk : Option Served) (schema : Schema) → IfSome ends.schema_old.left (λ bytes. loaded bytes ≡ Ok schema)
-    → IsTalkOver schema status moments (link_old ends) (link_new ends) ends.in_old ends.in_new ends.out_old ends.out_new desk → Talks status moments ends desk
-talked status moments ends desk schema is (inl h) = held schema h.served h.end is h.is_desk h.is_status h.session
-talked status moments ends desk schema is (inr n) = no_memory n.is_desk n.is_status (n.input, n.says)
+-- ---- the history
+
+module _ (schema : Schema) (clock : Option (List ℕ)) (old : Shown) (status : ℕ) (desk : Option Served) (clock' : Option (List ℕ)) (new : Shown) (h : HeldBy (first_served schema) clock old status desk clock' new) where
+  pub held_legal : IfSome desk HasLegalHistory
+  held_legal = rw h.is_desk (legal_still own_seat (first_served schema) h.served tt h.session.becomes.leads)
+
+  pub held_own : IfSome desk HasOwnEntries
+  held_own = rw h.is_desk (own_still own_seat (first_served schema) h.served (All-nil (IsEntryOf own_seat schema)) h.session.becomes.leads)

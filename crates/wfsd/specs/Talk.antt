@@ -1,14 +1,16 @@
 -- What the program comes to.
-use Rattle.std.specs.Prelude.{◌≡◌, ℕ, ◌⊎◌, nat_lt, if◌then◌else◌, List, [], ◌∷◌, ◌++◌, length, codes, Option, Some, None, Result, Ok, Err, IfSome}
+use Rattle.std.specs.Prelude.{◌≡◌, ℕ, ◌⊎◌, nat_lt, if◌then◌else◌, List, [], ◌∷◌, ◌++◌, length, codes, Option, Some, None, Result, Err, IfSome, Ok}
 use Rattle.wfs_ends.specs.Ends.{Shown, Rose, GivesAll, GivesFront, both, joined}
+use Rattle.http_session.specs.Reading.{IsCalm}
 use Rattle.feature_values.specs.declared.schema.Schema.{Schema}
 use Rattle.feature_schema.specs.declared.fault.SchemaFault.{SchemaFault}
 use Rattle.feature_schema.specs.declared.fault.SchemaFault.TheVariants as schema_fault
 use Rattle.feature_schema.specs.File.{schema_of}
-use Rattle.wfsd.specs.declared.ending.SessionEnd.{SessionEnd}
-use Rattle.wfsd.specs.declared.ending.SessionEnd.TheVariants as end
-use Rattle.wfsd.specs.Served.{Served}
-use Rattle.wfsd.specs.Session.{IsSession}
+use Rattle.message_asks.specs.Verdicts.{Served, first_served, HasEntriesOf}
+use Rattle.session_workers.specs.declared.ending.SessionEnd.{SessionEnd}
+use Rattle.session_workers.specs.declared.ending.SessionEnd.TheVariants as end
+use Rattle.session_workers.specs.Session.{IsSession}
+use Rattle.wfsd.specs.Served.{own_seat, desk_meaning}
 use Rattle.wfsd.specs.Words.{IsTalk}
 
 -- ---- the schema
@@ -39,25 +41,26 @@ refused_line fault = joined (codes "wfsd: schema refused: " ∷ fault_text fault
 abbrev pub GivesOr : Shown → List ℕ → Shown → Type 0
 GivesOr old text new = GivesAll old text new ⊎ GivesFront old text new
 
--- the ends of the program, before and after it
+-- the ends of the program at one time: the schema's source, the input, the output, and the moments that the clock has still to tell
 pub record Ends : Type 0 where
-  pub schema_old : Shown
-  pub schema_new : Shown
-  pub in_old : Shown
-  pub in_new : Shown
-  pub out_old : Shown
-  pub out_new : Shown
+  pub schema : Shown
+  pub input : Shown
+  pub out : Shown
+  pub clock : Option (List ℕ)
 
 -- the input and the output as one link
-abbrev pub link_old : Ends → Shown
-link_old ends = both ends.in_old ends.out_old
+abbrev pub link_of : Ends → Shown
+link_of ends = both ends.input ends.out
 
-abbrev pub link_new : Ends → Shown
-link_new ends = both ends.in_new ends.out_new
+-- neither the input nor the clock was touched, and one line was given, or a front of it
+pub record OnlySays (old : Ends) (line : List ℕ) (new : Ends) : Type 0 where
+  pub input : new.input ≡ old.input
+  pub clock : new.clock ≡ old.clock
+  pub says : GivesOr old.out line new.out
 
--- the input was not touched, and one line was given, or a front of it
-abbrev pub OnlySays : Ends → List ℕ → Type 0
-OnlySays ends line = (ends.in_new ≡ ends.in_old) × GivesOr ends.out_old line ends.out_new
+-- the bytes of the schema's source mean this, where it tells them
+abbrev pub Means : Ends → Result Schema SchemaFault → Type 0
+Means old meant = IfSome old.schema.left (λ bytes. loaded bytes ≡ meant)
 
 -- ---- a session
 
@@ -71,33 +74,30 @@ status_of end.ReadFault = 4
 status_of end.WriteFault = 7
 status_of end.NoMemory = 8
 
--- what a session by a schema comes to: it was held, or memory ran out before
-pub record HeldBy (schema : Schema) (status : ℕ) (moments : Option (List ℕ)) (old new : Shown) (desk : Option Served) : Type 0 where
-  pub served : Served
+-- a session was held by a service over a link, and its end gives the status
+pub record HeldBy (first : Served) (clock : Option (List ℕ)) (old : Shown) (status : ℕ) (desk : Option Served) (clock' : Option (List ℕ)) (new : Shown) : Type 0 where
   pub end : SessionEnd
+  pub served : Served
   pub is_desk : desk ≡ Some served
   pub is_status : status ≡ status_of end
-  pub session : IsSession moments (record { schema = schema; entries = [] }) old end served new
-
-pub record NotHeld (status : ℕ) (in_old in_new out_old out_new : Shown) (desk : Option Served) : Type 0 where
-  pub is_desk : desk ≡ None
-  pub is_status : status ≡ 8
-  pub input : in_new ≡ in_old
-  pub says : GivesOr out_old (codes "wfsd: no memory\n") out_new
-
-abbrev pub IsTalkOver : Schema → ℕ → Option (List ℕ) → Shown → Shown → Shown → Shown → Shown → Shown → Option Served → Type 0
-IsTalkOver schema status moments old new in_old in_new out_old out_new desk = HeldBy schema status moments old new desk ⊎ NotHeld status in_old in_new out_old out_new desk
+  pub session : IsSession desk_meaning clock first old end served clock' new
 
 -- What a session over the schema's source, the input and the output comes to. The schema is read first: it is refused (3), or
--- its source fails (4), or memory runs out before the session (8). Else one session is held, whose end gives the status.
-pub data Talks (status : ℕ) (moments : Option (List ℕ)) (ends : Ends) (desk : Option Served) : Type 0 where
-  held : (schema : Schema) (served : Served) (e : SessionEnd) → IfSome ends.schema_old.left (λ bytes. loaded bytes ≡ Ok schema) → desk ≡ Some served → status ≡ status_of e
-      → IsSession moments (record { schema = schema; entries = [] }) (link_old ends) e served (link_new ends) → Talks status moments ends desk
-  schema_refused : (fault : SchemaFault) → IfSome ends.schema_old.left (λ bytes. loaded bytes ≡ Err fault) → desk ≡ None → status ≡ 3 → OnlySays ends (refused_line fault) → Talks status moments ends desk
-  schema_failed : Rose ends.schema_old.failed_takes ends.schema_new.failed_takes → desk ≡ None → status ≡ 4 → OnlySays ends (codes "wfsd: cannot read\n") → Talks status moments ends desk
-  no_memory : desk ≡ None → status ≡ 8 → OnlySays ends (codes "wfsd: no memory\n") → Talks status moments ends desk
+-- its source fails (4), or memory runs out before the session (8). Else one session is held, whose end gives the status. No take of
+-- the schema's source failed where its failure is not the answer.
+pub data Talks (old : Ends) (status : ℕ) (desk : Option Served) (new : Ends) : Type 0 where
+  held : (schema : Schema) → Means old (Ok schema) → IsCalm old.schema new.schema → HeldBy (first_served schema) old.clock (link_of old) status desk new.clock (link_of new) → Talks old status desk new
+  schema_refused : (fault : SchemaFault) → Means old (Err fault) → IsCalm old.schema new.schema → desk ≡ None → status ≡ 3 → OnlySays old (refused_line fault) new → Talks old status desk new
+  schema_failed : Rose old.schema.failed_takes new.schema.failed_takes → desk ≡ None → status ≡ 4 → OnlySays old (codes "wfsd: cannot read\n") new → Talks old status desk new
+  no_memory : IsCalm old.schema new.schema → desk ≡ None → status ≡ 8 → OnlySays old (codes "wfsd: no memory\n") new → Talks old status desk new
 
 -- What the program comes to, by its words: a session, or status 2 and a line.
-pub data Runs (words : List (List ℕ)) (status : ℕ) (moments : Option (List ℕ)) (ends : Ends) (desk : Option Served) : Type 0 where
-  talks : IsTalk words → Talks status moments ends desk → Runs words status moments ends desk
-  refuses : (IsTalk words → ⊥) → status ≡ 2 → ends.schema_new ≡ ends.schema_old → OnlySays ends (codes "wfsd: bad words\n") → desk ≡ None → Runs words status moments ends desk
+pub data Runs (words : List (List ℕ)) (old : Ends) (status : ℕ) (desk : Option Served) (new : Ends) : Type 0 where
+  talks : IsTalk words → Talks old status desk new → Runs words old status desk new
+  refuses : (IsTalk words → ⊥) → status ≡ 2 → new.schema ≡ old.schema → OnlySays old (codes "wfsd: bad words\n") new → desk ≡ None → Runs words old status desk new
+
+-- ---- the history
+
+-- each entry is of the one seat, and its request is such as the schema allows
+abbrev pub HasOwnEntries : Served → Type 0
+HasOwnEntries served = HasEntriesOf own_seat served

@@ -1,16 +1,17 @@
 //! One session over a schema, an input and an output.
 
-ghost use Rattle.std.specs.Prelude.{◌≡◌, [], None, IfOk};
+ghost use Rattle.std.specs.Prelude.{◌≡◌, [], codes, None, IfOk, IfSome};
 ghost use Rattle.wfs_ends.specs.Ends.{both};
-ghost use Rattle.wfsd.specs.Session.{IsSession};
-ghost use Rattle.wfsd.specs.Talk.{Talks, IsTalkOver, GivesOr, status_of};
+ghost use Rattle.message_asks.specs.Verdicts.{first_served, HasLegalHistory};
+ghost use Rattle.session_workers.specs.Session.{IsSession};
+ghost use Rattle.wfsd.specs.Served.{desk_meaning};
+ghost use Rattle.wfsd.specs.Talk.{Ends, Talks, HeldBy, GivesOr, HasOwnEntries, status_of};
 
 use crate::desk::Desk;
-use crate::ending::SessionEnd;
 use crate::load::{Unloaded, load_schema, say_refused};
-use crate::session::hold;
 use feature_values::Schema;
 use http_session::Reader;
+use session_workers::{NoGate, SessionEnd, session};
 use std::alloc::Global;
 use wfs_ends::{Buffer, Clock, Joined, Mem, OutOfMemory, Sink, Source, put_all};
 
@@ -38,7 +39,7 @@ pub struct Done {
 /// The status is 0 where the input was read to its end, or an answer closed the session; 3 where the
 /// schema is refused; 4 where its source or the input failed; 7 where the output failed; 8 where memory
 /// ran out; 10 where the input ended within a message; and 12 where a refusal closed the session. For 3,
-/// for 4 before the session and for 8 before it one line is written.
+/// for 4 before the session and for 8 before it one line is written. Whatever came, the history that is left is legal.
 pub fn talk<Q: Source, I: Source, O: Sink, C: Clock>(
     alloc: Global,
     schema: &mut Q,
@@ -46,10 +47,18 @@ pub fn talk<Q: Source, I: Source, O: Sink, C: Clock>(
     out: &mut O,
     clock: &mut C,
 ) -> Done
-    ensures { Talks result.status (C.moments clock.old) (record { schema_old = Q.source schema.old; schema_new = Q.source schema.new; in_old = I.source input.old; in_new = I.source input.new; out_old = O.sink out.old; out_new = O.sink out.new }) result.desk }
+    ensures talks { Talks
+        (record { schema = Q.source schema.old; input = I.source input.old; out = O.sink out.old; clock = C.moments clock.old })
+        result.status result.desk
+        (record { schema = Q.source schema.new; input = I.source input.new; out = O.sink out.new; clock = C.moments clock.new }) }
+    ensures legal { IfSome result.desk HasLegalHistory }
+    ensures own { IfSome result.desk HasOwnEntries }
 {
     match load_schema(alloc, schema) {
-        Ok(schema) => talk_over(alloc, schema, input, out, clock),
+        Ok(schema) => match open(alloc, schema) {
+            Ok(desks) => hold(alloc, desks, input, out, clock),
+            Err(OutOfMemory) => end_for_memory(out),
+        },
         Err(Unloaded::Refused(fault)) => {
             say_refused(out, &fault);
             ended_early(SCHEMA_REFUSED)
@@ -58,11 +67,18 @@ pub fn talk<Q: Source, I: Source, O: Sink, C: Clock>(
             say(out, b"wfsd: cannot read\n");
             ended_early(READ_FAULT)
         }
-        Err(Unloaded::OutOfMemory) => {
-            say(out, b"wfsd: no memory\n");
-            ended_early(OUT_OF_MEMORY)
-        }
+        Err(Unloaded::OutOfMemory) => end_for_memory(out),
     }
+}
+
+// Says that memory ran out before a session.
+fn end_for_memory<O: Sink>(out: &mut O) -> Done
+    ensures status { result.status ≡ 8 }
+    ensures desk { result.desk ≡ None }
+    ensures says { GivesOr (O.sink out.old) (codes "wfsd: no memory\n") (O.sink out.new) }
+{
+    say(out, b"wfsd: no memory\n");
+    ended_early(OUT_OF_MEMORY)
 }
 
 /// What is left where no session was held.
@@ -90,7 +106,7 @@ struct Desks {
 
 // Takes the memory of a session.
 fn open(alloc: Global, schema: Schema) -> Mem<Desks>
-    ensures desk { IfOk result (λ d. d.desk ≡ record { schema = schema; entries = [] }) }
+    ensures desk { IfOk result (λ d. d.desk ≡ first_served schema) }
     ensures reader { IfOk result (λ d. d.reader ≡ []) }
 {
     Ok(Desks {
@@ -100,42 +116,37 @@ fn open(alloc: Global, schema: Schema) -> Mem<Desks>
     })
 }
 
-// Holds a session by a schema.
-fn talk_over<I: Source, O: Sink, C: Clock>(
+// Holds a session with what it takes.
+fn hold<I: Source, O: Sink, C: Clock>(
     alloc: Global,
-    schema: Schema,
+    desks: Desks,
     input: &mut I,
     out: &mut O,
     clock: &mut C,
 ) -> Done
-    ensures { IsTalkOver schema result.status (C.moments clock.old) (both (I.source input.old) (O.sink out.old)) (both (I.source input.new) (O.sink out.new)) (I.source input.old) (I.source input.new) (O.sink out.old) (O.sink out.new) result.desk }
+    requires fresh { desks.reader ≡ [] }
+    ensures { HeldBy desks.desk
+        (C.moments clock.old) (both (I.source input.old) (O.sink out.old))
+        result.status result.desk
+        (C.moments clock.new) (both (I.source input.new) (O.sink out.new)) }
 {
-    match open(alloc, schema) {
-        Ok(
-            Desks {
-                mut desk,
-                mut reader,
-                mut buffer,
-            },
-        ) => {
-            let end = converse(
-                alloc,
-                input,
-                out,
-                clock,
-                &mut desk,
-                &mut reader,
-                &mut buffer,
-            );
-            Done {
-                status: status_of(end),
-                desk: Some(desk),
-            }
-        }
-        Err(OutOfMemory) => {
-            say(out, b"wfsd: no memory\n");
-            ended_early(OUT_OF_MEMORY)
-        }
+    let Desks {
+        mut desk,
+        mut reader,
+        mut buffer,
+    } = desks;
+    let end = converse(
+        alloc,
+        input,
+        out,
+        clock,
+        &mut desk,
+        &mut reader,
+        &mut buffer,
+    );
+    Done {
+        status: status_of(end),
+        desk: Some(desk),
     }
 }
 
@@ -151,13 +162,16 @@ fn converse<I: Source, O: Sink, C: Clock>(
     buffer: &mut Buffer,
 ) -> SessionEnd
     requires fresh { reader.old ≡ [] }
-    ensures { IsSession (C.moments clock.old) desk.old (both (I.source input.old) (O.sink out.old)) result desk.new (both (I.source input.new) (O.sink out.new)) }
+    ensures { IsSession desk_meaning
+        (C.moments clock.old) desk.old (both (I.source input.old) (O.sink out.old))
+        result desk.new
+        (C.moments clock.new) (both (I.source input.new) (O.sink out.new)) }
 {
     let mut link = Joined {
         source: input,
         sink: out,
     };
-    hold(alloc, &mut link, clock, desk, reader, buffer)
+    session(alloc, desk, &mut link, clock, &mut NoGate, reader, buffer)
 }
 
 // The status of a session's end.

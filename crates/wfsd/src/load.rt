@@ -1,7 +1,8 @@
 //! The schema, read from its source.
 
-ghost use Rattle.std.specs.Prelude.{◌≡◌, ◌++◌, false};
+ghost use Rattle.std.specs.Prelude.{◌≡◌, ◌++◌, false, Err};
 ghost use Rattle.wfs_ends.specs.Ends.{Writes};
+ghost use Rattle.http_session.specs.Reading.{IsCalm};
 ghost use Rattle.feature_schema.specs.File.{schema_of};
 ghost use Rattle.wfsd.specs.Talk.{GivesOr, refused_line, fault_text};
 ghost use Rattle.wfsd.specs.Loading.{IsLoaded, IsRead, unloaded_by};
@@ -28,7 +29,8 @@ pub enum Unloaded {
 
 /// Reads the schema from its source.
 pub fn load_schema<Q: Source>(alloc: Global, source: &mut Q) -> Result<Schema, Unloaded>
-    ensures { IsLoaded (Q.source source.old) result (Q.source source.new) }
+    ensures loaded { IsLoaded (Q.source source.old) result (Q.source source.new) }
+    ensures calm { (result ≡ Err Unloaded.Failed → ⊥) → IsCalm (Q.source source.old) (Q.source source.new) }
 {
     match read_up_to(alloc, source, MOST_BYTES) {
         Err(OutOfMemory) => Err(Unloaded::OutOfMemory),

@@ -1,23 +1,18 @@
 //! `wfsd`: a Web Feature Service (OGC 09-025r2) whose answers are those of one serial history.
 //!
 //! So far it holds one session over the standard input and output: it reads the schema of its folder, and then message
-//! after message, transactions that insert features and queries of features, and answers each.
+//! after message, and answers each.
 #![tactic(auto)]
 
-mod asks;
 mod conversation;
 mod desk;
-mod ending;
 mod load;
 mod program;
-mod round;
-mod session;
 mod source;
 mod words;
 
 pub use conversation::{Done, talk};
 pub use desk::Desk;
-pub use ending::SessionEnd;
 pub use program::wfsd;
 
 #[cfg(test)]

@@ -1,8 +1,9 @@
 //! All that the program does, by its words.
 
-ghost use Rattle.std.specs.Prelude.{◌≡◌, map};
+ghost use Rattle.std.specs.Prelude.{◌≡◌, map, IfSome};
 ghost use Rattle.std.specs.String.{string_bytes};
-ghost use Rattle.wfsd.specs.Talk.{Runs, Ends};
+ghost use Rattle.message_asks.specs.Verdicts.{HasLegalHistory};
+ghost use Rattle.wfsd.specs.Talk.{Runs, Ends, HasOwnEntries};
 
 use crate::conversation::{Done, ended_early, say, talk};
 use crate::words::is_talk;
@@ -23,7 +24,12 @@ pub fn wfsd<Q: Source, I: Source, O: Sink, C: Clock>(
     out: &mut O,
     clock: &mut C,
 ) -> Done
-    ensures { Runs (map string_bytes words.now) result.status (C.moments clock.old) (record { schema_old = Q.source schema.old; schema_new = Q.source schema.new; in_old = I.source input.old; in_new = I.source input.new; out_old = O.sink out.old; out_new = O.sink out.new }) result.desk }
+    ensures runs { Runs (map string_bytes words.now)
+        (record { schema = Q.source schema.old; input = I.source input.old; out = O.sink out.old; clock = C.moments clock.old })
+        result.status result.desk
+        (record { schema = Q.source schema.new; input = I.source input.new; out = O.sink out.new; clock = C.moments clock.new }) }
+    ensures legal { IfSome result.desk HasLegalHistory }
+    ensures own { IfSome result.desk HasOwnEntries }
 {
     if is_talk(words) {
         return talk(alloc, schema, input, out, clock);

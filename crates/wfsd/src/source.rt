@@ -1,6 +1,7 @@
 //! A source read to its end.
 
-ghost use Rattle.std.specs.Prelude.{◌≡◌, length, IfOk};
+ghost use Rattle.std.specs.Prelude.{◌≡◌, length, IfOk, Ok};
+ghost use Rattle.http_session.specs.Reading.{IsCalm};
 ghost use Rattle.wfsd.specs.Source.{IsSourceRead, IsFilled};
 
 use std::alloc::Global;
@@ -19,7 +20,8 @@ pub enum SourceRead {
 
 /// Reads a source to its end, or to the byte behind the most that it may have.
 pub fn read_up_to<Q: Source>(alloc: Global, source: &mut Q, most: u32) -> Mem<SourceRead>
-    ensures { IfOk result (λ read. IsSourceRead most (Q.source source.old) read (Q.source source.new)) }
+    ensures read { IfOk result (λ read. IsSourceRead most (Q.source source.old) read (Q.source source.new)) }
+    ensures calm { (result ≡ Ok SourceRead.Fault → ⊥) → IsCalm (Q.source source.old) (Q.source source.new) }
 {
     let mut bytes = zeros(alloc, most as usize + 1)?;
     match fill(source, &mut bytes) {
@@ -55,6 +57,7 @@ enum Filled {
 fn fill<Q: Source>(source: &mut Q, bytes: &mut [u8]) -> Filled
     ensures filled { IsFilled bytes.new (Q.source source.old) result (Q.source source.new) }
     ensures size { length bytes.new ≡ length bytes.old }
+    ensures calm { (result ≡ Filled.Fault → ⊥) → IsCalm (Q.source source.old) (Q.source source.new) }
 {
     let mut done = 0;
     while done < bytes.len() {

@@ -13,6 +13,7 @@ loop-filled-preserved g c = (
   omega (arith, c.loop-filled.invariant.2),
   keeps_on _ _ _ c.loop-filled.invariant.3 c.take_behind.ensures.keeps,
   rest_more _ _ _ c.loop-filled.filled c.in-Ok.count c.loop-filled.body c.take_behind.new.bytes c.loop-filled.invariant.4 c.take_behind.ensures.front c.in-Ok.ensures.moved c.in-Ok.ensures.bytes,
+  c.in-Ok.ensures.calm ∙ c.loop-filled.invariant.5,
 )
 
 pub returns-in-Err-clause-rest : goal.returns-in-Err-clause-rest

@@ -1,4 +1,4 @@
-use Rattle.std.proofs.Common.{arith, refl, ap, length}
+use Rattle.std.proofs.Common.{◌∙◌, arith, refl, ap, length}
 use Rattle.http_session.proofs.Spots.{reached_on}
 use Rattle.http_session.proofs.Bodies.{keeps_on, keeps_stay}
 use Rattle.http_session.proofs.Follows.{follows_start, follows_more, whole_chunks, ended_chunks, fault_chunks}
@@ -8,13 +8,14 @@ pub loop-content-smaller : goal.loop-content-smaller
 loop-content-smaller g c = c.in-More.ensures.turn.1
 
 pub loop-content-init : goal.loop-content-init
-loop-content-init g c = (let n = ap length c.new-content.ensures.items in omega arith, follows_start _ _ c.new-content.ensures.items, keeps_stay _)
+loop-content-init g c = (let n = ap length c.new-content.ensures.items in omega arith, follows_start _ _ c.new-content.ensures.items, keeps_stay _, refl)
 
 pub loop-content-preserved : goal.loop-content-preserved
 loop-content-preserved g c = (
   c.read_chunk.ensures.within c.in-More.is,
   follows_more _ _ _ c.loop-content.content.items _ c.loop-content.invariant.1 c.in-More.ensures.turn.0,
   keeps_on _ _ _ c.loop-content.invariant.2 c.read_chunk.ensures.keeps,
+  c.in-More.ensures.calm (λ e. absurd cc) ∙ c.loop-content.invariant.3,
 )
 
 pub returns-in-Whole-clause-read : goal.returns-in-Whole-clause-read

@@ -6,7 +6,7 @@ use Rattle.http_session.proofs.Turns.{turn_back, ended_from, over_at, over_end, 
 use Rattle.http_session.proofs.chunks.read_data.Goals as goal
 
 pub loop-left-init : goal.loop-left-init
-loop-left-init g c = (c.requires.within, passes_by _ _ _ (λ x. refl), keeps_stay _)
+loop-left-init g c = (c.requires.within, passes_by _ _ _ (λ x. refl), keeps_stay _, refl)
 
 pub returns-in-End-clause-turn : goal.returns-in-End-clause-turn
 returns-in-End-clause-turn g c =
@@ -31,6 +31,7 @@ loop-left-preserved g c = (
   copied_within _ _ _ _ _ _ _ _ c.in-Some.ensures.copied,
   passes_on _ _ _ _ _ _ (passes_on (chunk_of c.args.content.now.items c.args.size) (chunk_of c.loop-left.content.items c.loop-left.left) (chunk_of c.loop-left.content.items c.loop-left.left) _ _ _ c.loop-left.invariant.1 (passes_held (chunk_of c.loop-left.content.items c.loop-left.left) _ _ _ _ _ c.hold_byte.ensures.moved)) (passes_copied _ _ _ _ _ _ _ _ _ c.in-Some.ensures.copied),
   keeps_on _ _ _ c.loop-left.invariant.2 c.hold_byte.ensures.moved.keeps,
+  c.in-More.ensures.calm (λ e. absurd cc) ∙ c.loop-left.invariant.3,
 )
 
 pub returns-clause-turn : goal.returns-clause-turn

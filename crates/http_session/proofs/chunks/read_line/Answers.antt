@@ -1,4 +1,4 @@
-use Rattle.std.proofs.Common.{arith}
+use Rattle.std.proofs.Common.{refl, ◌∙◌, arith}
 use Rattle.http_session.specs.Chunks.{part_line}
 use Rattle.http_session.specs.Lines.{line_of, line_from}
 use Rattle.http_session.proofs.Spots.{passes_alike, fault_here, fault_on, line_start, line_on, line_whole, line_bad, line_over, line_at_end}
@@ -9,13 +9,14 @@ pub loop-byte-smaller : goal.loop-byte-smaller
 loop-byte-smaller g c = omega (arith, c.in-Next.ensures.byte.3)
 
 pub loop-byte-init : goal.loop-byte-init
-loop-byte-init g c = (c.start-state.ensures.state, line_start _ _ c.start-state.ensures.value, keeps_stay _)
+loop-byte-init g c = (c.start-state.ensures.state, line_start _ _ c.start-state.ensures.value, keeps_stay _, refl)
 
 pub loop-byte-preserved : goal.loop-byte-preserved
 loop-byte-preserved g c = (
   c.in-Goes.ensures.state,
   line_on c.loop-byte.state c.in-Goes.next _ _ _ _ c.in-Next.ensures.byte.1 c.loop-byte.invariant.1 c.in-Next.ensures.byte.2 c.in-Goes.ensures.step,
   keeps_on _ _ _ c.loop-byte.invariant.2 c.next_byte.ensures.keeps,
+  c.in-Next.ensures.calm (λ e. absurd cc) ∙ c.loop-byte.invariant.3,
 )
 
 pub returns-in-Ends-clause-line : goal.returns-in-Ends-clause-line

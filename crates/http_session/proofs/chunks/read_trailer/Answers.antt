@@ -1,4 +1,4 @@
-use Rattle.std.proofs.Common.{arith, refl}
+use Rattle.std.proofs.Common.{◌∙◌, arith, refl}
 use Rattle.http_session.specs.Chunks.{stops, whole, part}
 use Rattle.http_session.specs.Spots.{after_trailer}
 use Rattle.http_session.specs.declared.chunks.Begun.TheVariants as begun
@@ -11,7 +11,7 @@ pub loop-byte-smaller : goal.loop-byte-smaller
 loop-byte-smaller g c = omega (arith, c.in-Next.ensures.byte.3)
 
 pub loop-byte-init : goal.loop-byte-init
-loop-byte-init g c = (keeps_stay _, λ content. passes_by _ _ _ (λ x. refl))
+loop-byte-init g c = (keeps_stay _, λ content. passes_by _ _ _ (λ x. refl), refl)
 
 pub loop-byte-preserved : goal.loop-byte-preserved
 loop-byte-preserved g c = (
@@ -19,6 +19,7 @@ loop-byte-preserved g c = (
   λ content.
       passes_on (λ w. stops (after_trailer content begun.Nothing w)) (λ w. stops (after_trailer content c.loop-byte.line w)) (λ w. stops (after_trailer content c.in-Some.next w)) _ _ _ (c.loop-byte.invariant.1 content)
       (passes_byte (λ w. stops (after_trailer content c.loop-byte.line w)) (λ w. stops (after_trailer content c.in-Some.next w)) _ _ _ c.in-Next.ensures.byte.1 c.in-Next.ensures.byte.2 (λ x. trailer_more content c.loop-byte.line c.in-Some.next _ x c.in-Some.ensures)),
+  c.in-Next.ensures.calm (λ e. absurd cc) ∙ c.loop-byte.invariant.2,
 )
 
 pub returns-in-None-clause-turn : goal.returns-in-None-clause-turn

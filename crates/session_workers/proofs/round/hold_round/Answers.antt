@@ -19,25 +19,25 @@ pub returns-in-BadHead : goal.returns-in-BadHead
 returns-in-BadHead g c =
     let given = rw (sym (g.met.L.Link.is_one c.next_message.new.link), sym (g.met.L.Link.is_one c.refuse.new.sink)) at c.refuse.ensures in
     let reads = c.in-BadHead.ensures in
-    refused_round g.S.Service _ (stays_so g.S.Service _ (g.met.S.Service.stays _)) c.args.is_last _ _ _ _ _ ending.BadHead 1 refl reads.due reads.answers reads.written reads.stays.takes reads.stays.puts reads.stays.place _ _ given
+    refused_round g.S.Service _ (stays_so g.S.Service _ (g.met.S.Service.stays _)) c.args.is_last _ _ _ _ _ ending.BadHead 1 refl reads.due reads.answers reads.written reads.stays.takes reads.stays.puts reads.stays.place (reads.calm (λ e. absurd cc)) _ _ given
 
 pub returns-in-TooLarge : goal.returns-in-TooLarge
 returns-in-TooLarge g c =
     let given = rw (sym (g.met.L.Link.is_one c.next_message.new.link), sym (g.met.L.Link.is_one c.refuse-in-TooLarge.new.sink)) at c.refuse-in-TooLarge.ensures in
     let reads = c.in-TooLarge.ensures in
-    refused_round g.S.Service _ (stays_so g.S.Service _ (g.met.S.Service.stays _)) c.args.is_last _ _ _ _ _ ending.TooLarge 2 refl reads.due reads.answers reads.written reads.stays.takes reads.stays.puts reads.stays.place _ _ given
+    refused_round g.S.Service _ (stays_so g.S.Service _ (g.met.S.Service.stays _)) c.args.is_last _ _ _ _ _ ending.TooLarge 2 refl reads.due reads.answers reads.written reads.stays.takes reads.stays.puts reads.stays.place (reads.calm (λ e. absurd cc)) _ _ given
 
 pub returns-in-NoLength : goal.returns-in-NoLength
 returns-in-NoLength g c =
     let given = rw (sym (g.met.L.Link.is_one c.next_message.new.link), sym (g.met.L.Link.is_one c.refuse-in-NoLength.new.sink)) at c.refuse-in-NoLength.ensures in
     let reads = c.in-NoLength.ensures in
-    refused_round g.S.Service _ (stays_so g.S.Service _ (g.met.S.Service.stays _)) c.args.is_last _ _ _ _ _ ending.NoLength 3 refl reads.due reads.answers reads.written reads.stays.takes reads.stays.puts reads.stays.place _ _ given
+    refused_round g.S.Service _ (stays_so g.S.Service _ (g.met.S.Service.stays _)) c.args.is_last _ _ _ _ _ ending.NoLength 3 refl reads.due reads.answers reads.written reads.stays.takes reads.stays.puts reads.stays.place (reads.calm (λ e. absurd cc)) _ _ given
 
 pub returns-in-Coding : goal.returns-in-Coding
 returns-in-Coding g c =
     let given = rw (sym (g.met.L.Link.is_one c.next_message.new.link), sym (g.met.L.Link.is_one c.refuse-in-Coding.new.sink)) at c.refuse-in-Coding.ensures in
     let reads = c.in-Coding.ensures in
-    refused_round g.S.Service _ (stays_so g.S.Service _ (g.met.S.Service.stays _)) c.args.is_last _ _ _ _ _ ending.Coding 4 refl reads.due reads.answers reads.written reads.stays.takes reads.stays.puts reads.stays.place _ _ given
+    refused_round g.S.Service _ (stays_so g.S.Service _ (g.met.S.Service.stays _)) c.args.is_last _ _ _ _ _ ending.Coding 4 refl reads.due reads.answers reads.written reads.stays.takes reads.stays.puts reads.stays.place (reads.calm (λ e. absurd cc)) _ _ given
 
 pub returns-in-ReadFault : goal.returns-in-ReadFault
 returns-in-ReadFault g c = read_failed_round g.S.Service _ (stays_so g.S.Service _ (g.met.S.Service.stays _)) c.args.is_last _ _ _ _ _ c.in-ReadFault.ensures

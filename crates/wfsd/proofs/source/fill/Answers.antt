@@ -1,4 +1,4 @@
-use Rattle.std.proofs.Common.{rules, ◌≤◌, length, take}
+use Rattle.std.proofs.Common.{rules, ◌∙◌, ◌≤◌, length, take}
 use Rattle.wfsd.specs.Source.{Takes}
 use Rattle.wfsd.proofs.Filling.{takes_both, took, put_more}
 use Rattle.wfsd.proofs.source.fill.Goals as goal
@@ -13,5 +13,6 @@ loop-done-preserved g c =
     record {
       within = search rules;
       size = search rules;
+      calm = c.in-Ok.ensures.calm ∙ c.loop-done.invariant.calm;
       takes = rw (put_more c.loop-done.done _ c.in-Ok.count c.loop-done.bytes c.take.new.into c.loop-done.invariant.within counted) (takes_both c.loop-done.invariant.takes some);
     }
