@@ -1,11 +1,19 @@
 -- What a write makes of a list of bytes.
-use Rattle.std.proofs.Common.{◌≡◌, ⊎_elim, ℕ, ◌+◌, ◌≤◌, suc, List, [], ◌∷◌, ◌++◌, length, get_or, take, drop, refl, sym, ◌∙◌, ap, subst, arith, append_assoc, length-append, take-append-drop}
+use Rattle.std.proofs.Common.{◌≡◌, ⊎_elim, ℕ, ◌+◌, ◌-◌, ◌≤◌, zero, suc, List, [], ◌∷◌, ◌++◌, length, get_or, take, drop, refl, sym, ◌∙◌, ap, subst, arith, append_assoc, length-append, take-append-drop}
 use Rattle.std.proofs.lemmas.List.{take_at, drop_more, drop-drop, length-take-le, take-take}
 use Rattle.std.proofs.Math.Seq.{drop-append-add}
 use Rattle.disk_core.specs.Disk.{over, Torn, Begins, Keeps}
 
 drop_past : (xs ys : List ℕ) (m n : ℕ) → m ≡ length xs + n → drop m (xs ++ ys) ≡ drop n ys
 drop_past xs ys m n is = rw is (drop-append-add xs ys n)
+
+-- what is left of two texts one behind the other
+pub drop_two : (n : ℕ) (xs ys : List ℕ) → drop n (xs ++ ys) ≡ drop n xs ++ drop (n - length xs) ys
+drop_two zero xs ys = let none : zero - length xs ≡ 0 = omega arith in rw none refl
+drop_two (suc n) [] ys = let all : suc n - 0 ≡ suc n = omega arith in rw all refl
+drop_two (suc n) (x ∷ xs) ys =
+    let less : suc n - suc (length xs) ≡ n - length xs = omega arith in
+    rw less (drop_two n xs ys)
 
 -- a write behind a front
 pub over_behind : (front bytes rest : List ℕ) (at : ℕ) → length front ≡ at → over at bytes (front ++ rest) ≡ (front ++ bytes) ++ drop (length bytes) rest

@@ -1,7 +1,8 @@
 //! A disk over a file of the system.
 
-ghost use Rattle.std.specs.Prelude.{◌≡◌, ◌≤◌, length, IfOk, OnErr, Ok, None};
+ghost use Rattle.std.specs.Prelude.{◌≡◌, ◌≤◌, drop, length, IfOk, IsTrue, IsErr, OnErr, Ok, None};
 ghost use Rattle.wfs_ends.specs.Ends.{Rose};
+ghost use Rattle.disk_core.specs.Disk.{joined};
 
 use crate::Disk;
 use std::fs::File;
@@ -12,7 +13,8 @@ use std::path::Path;
 use std::rt::Files;
 use wfs_ends::{Failed, Text};
 
-/// A file of the system. It is opened at first use, and made where it is not there.
+/// A file of the system. It is opened at first use, made where it is not there, and locked for as long as the value
+/// lives. Where another disk has the file open, in this process or another, each call fails, and does nothing.
 ///
 /// It does not tell what it holds, so nothing is proved of what a crash leaves of it. What is assumed of the system is
 /// that the model of `Disk` holds of it. Once a sync has failed, each later one fails too, since a system may then
@@ -35,12 +37,16 @@ fn sync_folder<R: Files<File = File>>(files: &R, path: &str) -> io::Result<()> {
     File::open(files, folder)?.sync_all()
 }
 
+// Opens the file for one disk alone. A file that is locked is another's.
 fn open_file<R: Files<File = File>>(files: &R, path: &str) -> io::Result<File> {
     let file = File::options()
         .read(true)
         .write(true)
         .create(true)
         .open(files, path)?;
+    if file.try_lock().is_err() {
+        return Err(ErrorKind::WouldBlock.into());
+    }
     sync_folder(files, path)?;
     Ok(file)
 }
@@ -64,23 +70,45 @@ fn read_full(file: &File, at: u64, into: &mut [u8]) -> io::Result<usize>
     Ok(done)
 }
 
+// What is left of a piece, where so many bytes were written of it and of what stands behind it.
+fn rest_of(piece: &[u8], written: usize) -> &[u8]
+    ensures { result.now ≡ drop written piece.now }
+{
+    &piece[written.min(piece.len())..]
+}
+
+// What is left of three pieces that stand one behind the other, where so many bytes of them were written.
+fn left_of<'a>(
+    head: &'a [u8],
+    body: &'a [u8],
+    tail: &'a [u8],
+    written: usize,
+) -> (&'a [u8], &'a [u8], &'a [u8])
+    ensures { joined result.0.now result.1.now result.2.now ≡ drop written (joined head.now body.now tail.now) }
+{
+    let behind_head = written.saturating_sub(head.len());
+    let behind_body = behind_head.saturating_sub(body.len());
+    (
+        rest_of(head, written),
+        rest_of(body, behind_head),
+        rest_of(tail, behind_body),
+    )
+}
+
 // Writes three pieces one behind the other. The system takes them in one call, or what it leaves goes after them.
-fn write_pieces(file: &File, at: u64, pieces: [&[u8]; 3]) -> io::Result<()> {
+fn write_pieces(file: &File, at: u64, head: &[u8], body: &[u8], tail: &[u8]) -> io::Result<()> {
     let mut from = file;
     from.seek(SeekFrom::Start(at))?;
-    let mut done = match file.write_vectored(&pieces.map(|piece| IoSlice::new(piece))) {
+    let pieces = [IoSlice::new(head), IoSlice::new(body), IoSlice::new(tail)];
+    let written = match file.write_vectored(&pieces) {
         Ok(n) => n,
         Err(e) if e.kind() == ErrorKind::Interrupted => 0,
         Err(e) => return Err(e),
     };
-    let mut place = at;
-    for piece in pieces {
-        if done < piece.len() {
-            file.write_all_at(&piece[done..], place.saturating_add(done as u64))?;
-            done = 0;
-        } else {
-            done -= piece.len();
-        }
+    let (head, body, tail) = left_of(head, body, tail, written);
+    let mut place = at.saturating_add(written as u64);
+    for piece in [head, body, tail] {
+        file.write_all_at(piece, place)?;
         place = place.saturating_add(piece.len() as u64);
     }
     Ok(())
@@ -111,6 +139,7 @@ impl<R: Files<File = File>> FileDisk<R> {
 
     // Counts a failure.
     fn fail(&mut self) -> Failed
+        ensures lost { self.new.is_lost ≡ self.old.is_lost }
         ensures count { self.old.faults ≤ self.new.faults }
         ensures cause { Rose self.old.faults self.new.faults }
     {
@@ -131,11 +160,28 @@ impl<R: Files<File = File>> FileDisk<R> {
         Ok(())
     }
 
+    // Syncs the file. Once that has failed, it fails ever after.
+    fn sync_data(&mut self) -> Result<(), Failed>
+        ensures stays { IsTrue self.old.is_lost → IsErr result }
+        ensures lost { OnErr result (IsTrue self.new.is_lost) }
+        ensures count { self.old.faults ≤ self.new.faults }
+        ensures cause { OnErr result (Rose self.old.faults self.new.faults) }
+    {
+        let answer = match &self.file {
+            Some(file) if !self.is_lost => file.sync_data(),
+            _ => Err(ErrorKind::NotFound.into()),
+        };
+        self.is_lost = answer.is_err();
+        self.told(answer)
+    }
+
     // Counts a failure of the system.
     fn told<T: Drop>(&mut self, answer: io::Result<T>) -> Result<T, Failed>
         ensures count { self.old.faults ≤ self.new.faults }
         ensures cause { OnErr result (Rose self.old.faults self.new.faults) }
         ensures value { IfOk result (λ value. answer ≡ Ok value) }
+        ensures told { IfOk answer (λ value. result ≡ Ok value) }
+        ensures lost { self.new.is_lost ≡ self.old.is_lost }
     {
         match answer {
             Ok(value) => Ok(value),
@@ -192,7 +238,7 @@ impl<R: Files<File = File>> Disk for FileDisk<R> {
     ) -> Result<(), Failed> {
         self.open()?;
         let answer = match &self.file {
-            Some(file) => write_pieces(file, at, [head, body, tail]),
+            Some(file) => write_pieces(file, at, head, body, tail),
             None => return Err(self.fail()),
         };
         self.told(answer)
@@ -210,15 +256,7 @@ impl<R: Files<File = File>> Disk for FileDisk<R> {
 
     fn sync(&mut self) -> Result<(), Failed> {
         self.open()?;
-        if self.is_lost {
-            return Err(self.fail());
-        }
-        let answer = match &self.file {
-            Some(file) => file.sync_data(),
-            None => return Err(self.fail()),
-        };
-        self.is_lost = answer.is_err();
-        self.told(answer)
+        self.sync_data()
     }
 
     fn len(&mut self) -> Result<u64, Failed> {

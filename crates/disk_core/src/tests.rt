@@ -76,3 +76,35 @@ fn a_file_is_written_cut_and_read(rt: HostRuntime) -> Result<(), Fail> {
     assert_eq!(rt; nowhere.len(), Err(Failed));
     Ok(())
 }
+
+// What a file holds once its disk is gone, and meanwhile nobody else has it.
+fn write_beside_another(rt: HostRuntime, name: &str) -> Result<bool, Fail> {
+    let mut disk = FileDisk::of(rt, Text::of(rt.alloc(), name)?);
+    write_and_sync(&mut disk, 0, b"abcdef")?;
+    let mut second = FileDisk::of(rt, Text::of(rt.alloc(), name)?);
+    let is_kept_out = second.len() == Err(Failed) && second.cut(0) == Err(Failed);
+    Ok(is_kept_out)
+}
+
+#[test]
+fn a_file_stays_and_is_one_disks_at_a_time(rt: HostRuntime) -> Result<(), Fail> {
+    let name = "a_file_of_two_disks";
+    assert!(rt; write_beside_another(rt, name)?);
+    let mut later = FileDisk::of(rt, Text::of(rt.alloc(), name)?);
+    let mut into = [0; 8];
+    assert_eq!(rt; later.read(0, &mut into)?, 6);
+    assert_eq!(rt; into, *b"abcdef\0\0");
+    fs::remove_file(&rt, name)?;
+    Ok(())
+}
+
+// The device takes no byte, and cannot be synced.
+#[test]
+fn a_full_device_fails_and_a_lost_sync_fails_ever_after(rt: HostRuntime) -> Result<(), Fail> {
+    let mut full = FileDisk::of(rt, Text::of(rt.alloc(), "/dev/full")?);
+    assert_eq!(rt; full.write_at(0, b"a"), Err(Failed));
+    assert_eq!(rt; full.write_framed(0, b"a", b"b", b"c"), Err(Failed));
+    assert_eq!(rt; full.sync(), Err(Failed));
+    assert_eq!(rt; full.sync(), Err(Failed));
+    Ok(())
+}

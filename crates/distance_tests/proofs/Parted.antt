@@ -1,8 +1,8 @@
 -- Geometries whose bounds lie farther apart than a distance do not lie within it.
-use Rattle.std.proofs.Common.{◌≡◌, ℕ, ◌+◌, ◌-◌, ◌*◌, ◌<◌, ◌≤◌, ℤ, pos, negsuc, ◌+ℤ◌, ◌-ℤ◌, ◌*ℤ◌, ◌≤ℤ◌, ◌<ℤ◌, unsigned_abs, Bool, true, false, ◌&&◌, ◌||◌, int_le, int_lt, List, [], ◌∷◌, ◌⊎◌, inl, inr, ⊎_elim, refl, sym, ap, subst, ◌∙◌, arith, to_z, of_z, w32, w64, nat_lt}
+use Rattle.std.proofs.Common.{◌≡◌, ℕ, ◌+◌, ◌-◌, ◌*◌, ◌<◌, ◌≤◌, ℤ, pos, ◌+ℤ◌, ◌-ℤ◌, ◌*ℤ◌, ◌≤ℤ◌, ◌<ℤ◌, unsigned_abs, true, false, ◌&&◌, ◌||◌, int_le, int_lt, List, [], ◌∷◌, ◌⊎◌, inl, inr, ⊎_elim, refl, sym, ap, subst, ◌∙◌, arith, to_z, of_z, w32, w64, nat_lt}
 use Rattle.std.proofs.lemmas.Int.{ints, clamps, unsigned_abs-mul, to_z-of_z, fits_signed_from_abs}
 use Rattle.std.proofs.lemmas.Nat.{mul-le, mul-lt}
-use Rattle.std.proofs.lemmas.Bool.{ltb-true, le-ltb, lt-ltb, false≢true, cases_Bool}
+use Rattle.std.proofs.lemmas.Bool.{ltb-true, lt-ltb, cases_Bool}
 use Rattle.std.proofs.Math.Nat.{le_of_mul-le-mul_left}
 use Rattle.std.proofs.lemmas.List.Elements.{recursion_from_All}
 use Rattle.std.specs.Prelude.{zero, suc}
@@ -13,16 +13,15 @@ use Rattle.geom_core.specs.Segments.{Segment}
 use Rattle.geom_core.specs.Extents.{IsLeastBox, positions_of, is_covered}
 use Rattle.geom_core.specs.declared.geometry.Geometry.{Geometry}
 use Rattle.geom_core.proofs.Both.{both, either, not_true}
-use Rattle.geom_core.proofs.Parts.{Parts, itself, minus, times, same_from}
-use Rattle.geom_core.proofs.Meeting.{box_of_segment, IsInBox-from, IsInBox-to, Way, way_back, after_x, after_y, before_x, before_y}
-use Rattle.spatial_tests.specs.Sharing.{segments_of, do_intersect}
+use Rattle.geom_core.proofs.Parts.{itself, minus, times, same_from}
+use Rattle.geom_core.proofs.Meeting.{box_of_segment, IsInBox-from, IsInBox-to, way_back, after_x, after_y, before_x, before_y}
+use Rattle.spatial_tests.specs.Sharing.{segments_of}
 use Rattle.spatial_tests.proofs.Apart.{IsSpanned, segments-in, apart-no_share}
 use Rattle.distance_tests.specs.Within.{way, dot, cross, are_close, is_before, is_behind, is_abreast, is_line_close, is_near, are_near, near_some, are_any_near, is_within_distance}
 use Rattle.distance_tests.specs.declared.gaps.Reach.{Reach}
 use Rattle.distance_tests.specs.Gaps.{gap, gap_x, gap_y, are_farther, reach_of, is_beyond}
 use Rattle.distance_tests.proofs.Feet.{foot_x, foot_y, up_is, square_is, dot_self, le_test, lt_test}
 use Rattle.distance_tests.proofs.Products.{passed}
-use borrow.Author.Differences.{up, down}
 
 -- What the code computes.
 pub gap_is : (g : ℕ) (after before y z : ℤ) → g ≡ gap (to_z w64 (of_z w64 after)) (to_z w64 (of_z w64 before)) → after ≡ y → before ≡ z →

@@ -1,20 +1,19 @@
 -- Within distance 0 lies just what intersects: an end that is so near a segment lies on it.
-use Rattle.std.proofs.Common.{◌≡◌, ℕ, ◌+◌, ◌-◌, ◌*◌, ◌<◌, ◌≤◌, ℤ, pos, negsuc, ◌-ℤ◌, ◌*ℤ◌, ◌≤ℤ◌, unsigned_abs, Bool, true, false, ◌&&◌, ◌||◌, int_le, int_lt, List, [], ◌∷◌, ◌⊎◌, inl, inr, ⊎_elim, refl, sym, ap, subst, ◌∙◌, arith}
+use Rattle.std.proofs.Common.{◌≡◌, ℕ, ◌+◌, ◌-◌, ◌*◌, ◌<◌, ◌≤◌, ℤ, pos, negsuc, ◌-ℤ◌, ◌*ℤ◌, ◌≤ℤ◌, unsigned_abs, Bool, true, false, ◌&&◌, ◌||◌, int_le, int_lt, List, ◌⊎◌, inl, inr, ⊎_elim, refl, sym, ap, subst, ◌∙◌, arith}
 use Rattle.std.specs.Prelude.{zero, suc}
 use Rattle.std.proofs.lemmas.Int.{ints, clamps}
 use Rattle.std.proofs.lemmas.Nat.{mul-le}
-use Rattle.std.proofs.lemmas.Bool.{cases_lt, cases_Bool}
+use Rattle.std.proofs.lemmas.Bool.{cases_lt}
 use Rattle.std.specs.Int.{int_min, int_max}
-use Rattle.std.specs.List.{list_any}
 use Rattle.geom_core.specs.Plane.{Point}
-use Rattle.geom_core.specs.Segments.{Segment, sign_of, sign, is_between, is_beside, is_on, do_touch, do_meet}
+use Rattle.geom_core.specs.Segments.{Segment, sign, is_between, is_beside, is_on, do_touch, do_meet}
 use Rattle.geom_core.specs.declared.geometry.Geometry.{Geometry}
-use Rattle.geom_core.proofs.Both.{both, either, or_left, or_right}
+use Rattle.geom_core.proofs.Both.{both, either, or_left}
 use Rattle.geom_core.proofs.Crossing.{det, det_parts}
 use Rattle.geom_core.proofs.Parts.{itself, minus, times, same_from}
-use Rattle.spatial_tests.specs.Sharing.{segments_of, meets_some, do_any_meet, covers_first, do_intersect}
+use Rattle.spatial_tests.specs.Sharing.{segments_of, meets_some, do_any_meet, do_intersect}
 use Rattle.distance_tests.specs.Within.{way, dot, cross, are_close, is_before, is_behind, is_abreast, is_line_close, is_near, are_near, near_some, are_any_near, is_within_distance}
-use Rattle.distance_tests.proofs.Feet.{foot_x, foot_y, cross_parts, up_is, square_is, dot_self, le_test, lt_test}
+use Rattle.distance_tests.proofs.Feet.{foot_x, foot_y, up_is, square_is, dot_self, le_test, lt_test}
 use Rattle.distance_tests.proofs.Distances.{or-more, any-more}
 
 le_true : (a b : ℤ) → a ≤ℤ b → int_le a b ≡ true

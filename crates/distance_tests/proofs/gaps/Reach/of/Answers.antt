@@ -1,6 +1,5 @@
 use Rattle.std.proofs.Common.{◌≡◌, subst, to_z, of_z, w64}
 use Rattle.geom_core.specs.Plane.{Point}
-use Rattle.geom_core.specs.Segments.{Segment}
 use Rattle.distance_tests.specs.declared.gaps.Reach.{Reach}
 use Rattle.distance_tests.specs.Gaps.{reach_of}
 use Rattle.distance_tests.proofs.Parted.{lowest_is, highest_is, reach_is}
