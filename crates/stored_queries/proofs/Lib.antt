@@ -1,4 +1,5 @@
 pub mod Answers
+pub mod Behind
 pub mod Created
 pub mod Found
 pub mod Pages

@@ -1,7 +1,6 @@
 -- Loops that look features up and put queries.
 use Rattle.std.proofs.Common.{◌≡◌, ℕ, ◌+◌, ◌<◌, ◌≤◌, Bool, true, false, List, [], ◌∷◌, ◌++◌, length, get_or, take, drop, map, filter, Some, None, Result, Ok, Err, refl, sym, ap, ◌∙◌, append-nil}
 use Rattle.std.specs.Prelude.{flat_map}
-use Rattle.std.specs.List.{fold}
 use Rattle.std.proofs.lemmas.List.{take_more, flat_map_more, map_push, at_drop_more, at_drop_all, map-append}
 use Rattle.std.proofs.lemmas.List.Elements.{filter-append}
 use Rattle.std.proofs.lemmas.List.Sums.{fold_push}
@@ -10,21 +9,20 @@ use Rattle.feature_values.specs.declared.feature.Feature.{Feature}
 use Rattle.feature_values.specs.declared.feature.Rid.{Rid}
 use Rattle.fes_filter.specs.declared.query.Query.{Query}
 use Rattle.fes_filter.specs.View.{feature_at}
-use Rattle.query_core.specs.Selecting.{all_selected, selected_ids, joined, held, to_list}
+use Rattle.query_core.specs.Selecting.{selected_ids, joined, held, to_list}
 use Rattle.wfs_model.specs.declared.fault.StoredFault.{StoredFault}
-use Rattle.stored_queries.specs.Meant.{with_more}
+use Rattle.stored_queries.specs.Meant.{with_more, selected_behind}
 
 pub one_more_held : (features : List Feature) (ids : List Rid) (i : ℕ) (d : Rid) → i < length ids → held features (take (i + 1) ids) ≡ held features (take i ids) ++ to_list (feature_at (get_or ids i d) features)
 unfolding held
 one_more_held features ids i d lt = ap (flat_map (λ id. to_list (feature_at id features))) (take_more ids i d lt) ∙ sym (flat_map_more (λ id. to_list (feature_at id features)) [] (take i ids) (get_or ids i d))
 
 -- one query more
-pub one_more_selected : {X : Type 0} (view : X → Query) (features : List Feature) (xs : List X) (i : ℕ) (x : X) → i < length xs → x ≡ get_or xs i x → all_selected features (map view (take (i + 1) xs)) ≡ joined (all_selected features (map view (take i xs))) (selected_ids features (view x))
-unfolding all_selected
-one_more_selected view features xs i x lt is =
-    ap (λ queries. fold (λ ids query. joined ids (selected_ids features query)) [] queries) (ap (map view) (take_more xs i x lt) ∙ map_push view (take i xs) (get_or xs i x))
-    ∙ fold_push (λ ids query. joined ids (selected_ids features query)) [] (map view (take i xs)) (view (get_or xs i x))
-    ∙ ap (λ y. joined (fold (λ ids query. joined ids (selected_ids features query)) [] (map view (take i xs))) (selected_ids features (view y))) (sym is)
+pub one_more_selected : {X : Type 0} (view : X → Query) (features : List Feature) (before : List Rid) (xs : List X) (i : ℕ) (x : X) → i < length xs → x ≡ get_or xs i x → selected_behind features before (map view (take (i + 1) xs)) ≡ joined (selected_behind features before (map view (take i xs))) (selected_ids features (view x))
+one_more_selected view features before xs i x lt is =
+    ap (selected_behind features before) (ap (map view) (take_more xs i x lt) ∙ map_push view (take i xs) (get_or xs i x))
+    ∙ fold_push (λ ids query. joined ids (selected_ids features query)) before (map view (take i xs)) (view (get_or xs i x))
+    ∙ ap (λ y. joined (selected_behind features before (map view (take i xs))) (selected_ids features (view y))) (sym is)
 
 -- ---- features that pass a test
 

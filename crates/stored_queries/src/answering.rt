@@ -14,9 +14,9 @@ ghost use Rattle.stored_queries.specs.Meant.{all_meant};
 
 use crate::collecting::{held, presented};
 use crate::describing::{all_stored, described};
-use crate::expanding::{Meant, expand_all, expand_one};
+use crate::expanding::{Meant, expand_one};
 use crate::refusing::{no_such_feature, no_such_property, refusal_of};
-use crate::selecting::selected_of;
+use crate::selecting::{select_asked, selected_of};
 use crate::stored::{Stored, is_id_query};
 use crate::valuing::values;
 use feature_values::{Feature, Rid, Schema};
@@ -106,7 +106,6 @@ fn shown<V: FeatureView>(
 }
 
 /// The features that are asked for (OGC 09-025r2, section 11).
-#[tactic(auto, unfolding(wfs_model::specs::Read::read, wfs_model::specs::Read::collection))]
 fn features_answered<V: FeatureView>(
     alloc: Global,
     view: &V,
@@ -118,11 +117,8 @@ fn features_answered<V: FeatureView>(
 ) -> Mem<Reply>
     ensures { IfOk result (λ reply. reply ≡ read schema.now (kept_with (V.features view.now) stored.now) moment (GetFeatures present.now asked.now)) }
 {
-    match expand_all(alloc, stored, asked, schema) {
-        Ok(queries) => {
-            let ids = selected_of(alloc, view, &queries)?;
-            shown(alloc, view, moment, present, asked, ids.items())
-        }
+    match select_asked(alloc, view, stored, schema, asked) {
+        Ok(ids) => shown(alloc, view, moment, present, asked, ids.items()),
         Err(fault) => refused(alloc, fault),
     }
 }

@@ -5,18 +5,22 @@ ghost use Rattle.std.specs.Option.{option_copied, option_map};
 ghost use Rattle.wfs_model.specs.Filled.{literal_of, read_at, filled_expr, id_at, filled_id, filled_filter, filled};
 
 use crate::readable::{kind_at, subject};
-use feature_values::{FeatureType, Schema, ValueFault, ValueKind, read_as, read_rid};
+use feature_values::{FeatureType, Schema, Value, ValueFault, ValueKind, read_as, read_rid};
 use fes_filter::{Expr, Filter, IdRef, Query, type_in};
 use std::alloc::Global;
 use wfs_ends::{Boxed, List, Mem, OutOfMemory, Text};
 
-/// The value that a text reads as, in the place of a parameter.
+/// The value that a text reads as, in the place of a parameter. Words share the text, however many places the parameter has.
+#[tactic(auto, unfolding(feature_values::specs::Reads::read_as))]
 fn read_at(alloc: Global, place: u32, kind: Option<ValueKind>, text: Option<&Text>) -> Mem<Expr>
     ensures { IfOk result (λ expr. expr ≡ read_at place kind (option_copied text.entry)) }
 {
     let (Some(kind), Some(text)) = (kind, text) else {
         return Ok(Expr::Parameter(place));
     };
+    if matches!(kind, ValueKind::Words) {
+        return Ok(Expr::Literal(Value::Words(text.copy(alloc)?)));
+    }
     match read_as(alloc, kind, text.as_str()) {
         Ok(value) => Ok(Expr::Literal(value)),
         Err(ValueFault::OutOfMemory) => Err(OutOfMemory),

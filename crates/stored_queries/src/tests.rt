@@ -20,6 +20,8 @@ const LINK: &str = "http://localhost:8080/wfs?service=WFS&request=GetFeature&typ
 enum Ask {
     Marks(bool, u32, Option<u32>),
     Use(bool, &'static str, &'static [(&'static str, &'static str)]),
+    /// Uses of the query by label, with one parameter each.
+    Uses(&'static [(&'static str, &'static str)]),
     Sizes(bool, u32, Option<u32>),
     Describe(&'static [&'static str]),
 }
@@ -33,7 +35,7 @@ enum Want {
     Described(&'static [&'static str]),
 }
 
-static ROWS: [(&str, Ask, Want); 19] = [
+static ROWS: [(&str, Ask, Want); 21] = [
     (
         "counted",
         Ask::Marks(true, 1, Some(1)),
@@ -78,6 +80,16 @@ static ROWS: [(&str, Ask, Want); 19] = [
         "with another parameter",
         Ask::Use(false, BY_LABEL, &[("l", "B"), ("X", "1")]),
         Want::Row(11, "X"),
+    ),
+    (
+        "several uses, each feature once",
+        Ask::Uses(&[("l", "B"), ("l", "A"), ("l", "B")]),
+        Want::Features(2, &[2, 1], "", ""),
+    ),
+    (
+        "the first fault of several uses",
+        Ask::Uses(&[("l", "B"), ("x", "A"), ("l", "A")]),
+        Want::Row(10, "l"),
     ),
     (
         "no such query",
@@ -184,6 +196,15 @@ fn only(alloc: Global, asked: Asked) -> Mem<List<Asked>> {
     Ok(List::of(all))
 }
 
+fn uses_of(alloc: Global, pairs: &[(&str, &str)]) -> Mem<List<Asked>> {
+    let mut all = Vec::new(alloc);
+    for one in pairs {
+        let (name, value) = *one;
+        all.push(use_of(alloc, BY_LABEL, &[(name, value)])?)?;
+    }
+    Ok(List::of(all))
+}
+
 fn request_of(alloc: Global, ask: &Ask) -> Mem<Request> {
     match ask {
         Ask::Marks(hits, start, count) => {
@@ -193,6 +214,10 @@ fn request_of(alloc: Global, ask: &Ask) -> Mem<Request> {
         Ask::Use(hits, id, pairs) => {
             let asked = only(alloc, use_of(alloc, *id, *pairs)?)?;
             Ok(Request::GetFeatures(present(alloc, *hits, 0, None)?, asked))
+        }
+        Ask::Uses(pairs) => {
+            let asked = uses_of(alloc, *pairs)?;
+            Ok(Request::GetFeatures(present(alloc, false, 0, None)?, asked))
         }
         Ask::Sizes(hits, start, count) => {
             let asked = Asked::Plain(marks(alloc, None));

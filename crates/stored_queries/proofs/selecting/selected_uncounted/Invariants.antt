@@ -1,4 +1,4 @@
-use Rattle.stored_queries.proofs.selecting.selected_of.Given as goal
+use Rattle.stored_queries.proofs.selecting.selected_uncounted.Given as goal
 
 abbrev pub ghosts-selected_under : goal.ghosts-selected_under
 ghosts-selected_under g a = record { name = a.blank.name; parts = a.blank.parts }
