@@ -1,12 +1,12 @@
 -- How many numbers were given by type, after parts of a change, and which limit on them is passed.
-use Rattle.std.proofs.Common.{◌≡◌, ℕ, suc, ◌+◌, ◌<◌, ◌≤◌, Bool, true, false, ◌&&◌, ◌||◌, List, [], ◌∷◌, length, get_or, drop, set, All, Option, Some, None, refl, sym, ap, ◌∙◌, subst, add-one, drop-cons, length-set, arith}
+use Rattle.std.proofs.Common.{◌≡◌, ℕ, suc, ◌+◌, ◌<◌, ◌≤◌, Bool, true, false, ◌&&◌, ◌||◌, List, [], ◌∷◌, length, get_or, drop, All, Option, Some, None, refl, sym, ap, ◌∙◌, subst, add-one, drop-cons, length-set, arith}
 use Rattle.std.specs.Prelude.{◌==◌, nat_lt, if◌then◌else◌, max, ◌≢◌}
 use Rattle.std.specs.List.{fold, list_any}
 use Rattle.std.proofs.lemmas.Bool.Decides.{nat_tests}
 use Rattle.std.proofs.lemmas.List.{get_or-set_same, get_or-set_other, drop_all}
 use Rattle.std.proofs.lemmas.List.Elements.{All-nil, All-cons, All-head, All-tail}
 use Rattle.feature_versions.specs.Types.{counted}
-use Rattle.service_state.specs.Passed.{counters_after, gives_above}
+use Rattle.service_state.specs.Passed.{gives_above}
 use Rattle.wfs_model.specs.declared.change.Part.{Part}
 use Rattle.wfs_model.specs.declared.change.Part.TheVariants.{Put, Remove}
 use Rattle.wfs_model.specs.Full.{some_passes}

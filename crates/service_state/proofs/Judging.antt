@@ -1,6 +1,6 @@
 -- Which limits are passed between a state and the one that a plan leaves, by what is told of the plan.
 use Rattle.std.proofs.Common.{◌≡◌, ℕ, ◌+◌, ◌≤◌, Bool, true, false, cond, List, [], ◌∷◌, length, Option, Some, None, refl, sym, ap, ◌∙◌, arith}
-use Rattle.std.specs.Prelude.{IsTrue, nat_lt, if◌then◌else◌}
+use Rattle.std.specs.Prelude.{nat_lt, if◌then◌else◌}
 use Rattle.std.specs.Option.{option_or}
 use Rattle.lock_table.specs.Held.{first_of, live, AreNumbered}
 use Rattle.lock_table.specs.Lock.{Lock}
@@ -8,11 +8,11 @@ use Rattle.lock_table.specs.Steps.{granted, renewed, released}
 use Rattle.request_plans.specs.declared.plan.LockWork.{LockWork}
 use Rattle.request_plans.specs.declared.plan.LockWork.TheVariants.{Nothing, Grant, Renew, Release}
 use Rattle.request_plans.specs.Carried.{locks_after, given_after, IsDoable}
-use Rattle.service_state.specs.Passed.{quantities_at, passed_between, locks_passed}
+use Rattle.service_state.specs.Passed.{passed_between, locks_passed}
 use Rattle.service_state.proofs.Alive.{granted_alive, renewed_alive, released_alive, granted_numbered, renewed_numbered, released_numbered}
 use Rattle.service_state.proofs.Playing.{no_more_passes}
 use Rattle.wfs_model.specs.declared.limits.FullAt.{FullAt}
-use Rattle.wfs_model.specs.declared.limits.LimitName.TheVariants.{Entries, Bytes, Features, Ids, Locks, Stored, Side}
+use Rattle.wfs_model.specs.declared.limits.LimitName.TheVariants.{Features, Ids, Locks, Stored, Side}
 use Rattle.wfs_model.specs.declared.limits.Limits.{Limits}
 use Rattle.wfs_model.specs.Full.{Quantities, at_limit, first_passed, passes, some_passes}
 use Rattle.wfs_model.specs.State.{State}
