@@ -1,20 +1,20 @@
 -- A prepared plan, carried out: what is kept stays well, and is what the plan leaves.
-use Rattle.std.proofs.Common.{◌≡◌, ℕ, ◌≤◌, true, All, Option, Some, None, refl, sym, ap, ◌∙◌, subst}
+use Rattle.std.proofs.Common.{◌≡◌, ℕ, ◌≤◌, true, All, Option, Some, None, refl, sym, ap, ◌∙◌}
 use Rattle.std.specs.Option.{IfSome, option_to_list}
 use Rattle.feature_values.specs.declared.schema.Schema.{Schema}
 use Rattle.lock_table.specs.Lock.{Locks}
 use Rattle.request_plans.specs.declared.plan.LockWork.{LockWork}
 use Rattle.request_plans.specs.declared.plan.Plan.{Plan}
 use Rattle.request_plans.specs.Carried.{locks_after, given_after}
-use Rattle.request_plans.specs.Plan.{IsPlan, CanPlay, carried}
-use Rattle.service_state.specs.Running.{IsState, IsPrepared, state_of}
+use Rattle.request_plans.specs.Plan.{CanPlay, carried}
+use Rattle.service_state.specs.Running.{IsState, state_of}
 use Rattle.service_state.proofs.Judging.{numbered_after}
 use Rattle.service_state.proofs.Playing.{played_opening, playing_within}
 use Rattle.wfs_model.specs.declared.change.Change.{Change}
 use Rattle.wfs_model.specs.Kept.{IsKept}
 use Rattle.wfs_model.specs.Playable.{most_number, AreQueriesOf, is_playable}
-use Rattle.wfs_model.specs.Played.{played, played_one}
-use Rattle.wfs_model.specs.State.{Durable, State, durable, last_moment}
+use Rattle.wfs_model.specs.Played.{played}
+use Rattle.wfs_model.specs.State.{Durable, last_moment}
 use Rattle.wfs_model.proofs.Playable.{playing_keeps}
 
 -- ---- what outlives the process

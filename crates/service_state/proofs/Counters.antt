@@ -1,12 +1,12 @@
 -- How many numbers were given by type, after parts of a change, and which limit on them is passed.
-use Rattle.std.proofs.Common.{◌≡◌, ℕ, suc, ◌+◌, ◌<◌, ◌≤◌, Bool, true, false, ◌&&◌, ◌||◌, List, [], ◌∷◌, length, get_or, drop, set, All, Option, Some, None, refl, sym, ap, ◌∙◌, subst, add-one, drop-cons, length-set, arith}
+use Rattle.std.proofs.Common.{◌≡◌, ℕ, suc, ◌+◌, ◌<◌, ◌≤◌, Bool, true, false, ◌&&◌, ◌||◌, List, [], ◌∷◌, length, get_or, drop, All, Option, Some, None, refl, sym, ap, ◌∙◌, subst, add-one, drop-cons, length-set, arith}
 use Rattle.std.specs.Prelude.{◌==◌, nat_lt, if◌then◌else◌, max, ◌≢◌}
 use Rattle.std.specs.List.{fold, list_any}
 use Rattle.std.proofs.lemmas.Bool.Decides.{nat_tests}
 use Rattle.std.proofs.lemmas.List.{get_or-set_same, get_or-set_other, drop_all}
 use Rattle.std.proofs.lemmas.List.Elements.{All-nil, All-cons, All-head, All-tail}
 use Rattle.feature_versions.specs.Types.{counted}
-use Rattle.service_state.specs.Passed.{counters_after, gives_above}
+use Rattle.service_state.specs.Passed.{gives_above, is_above}
 use Rattle.wfs_model.specs.declared.change.Part.{Part}
 use Rattle.wfs_model.specs.declared.change.Part.TheVariants.{Put, Remove}
 use Rattle.wfs_model.specs.Full.{some_passes}
@@ -110,6 +110,43 @@ none_passed limit (n ∷ counters) = rw below (none_passed limit counters)
   where
     below : nat_lt n n ≡ false
     below = grind arith
+
+-- where no part gives a number above the limit, none is passed
+above_less : (limit m n : ℕ) → limit ≤ m → nat_lt limit n ≡ false → nat_lt m n ≡ false
+above_less limit m n le is = grind (arith, nat_tests, le, is)
+
+no_more : (a b : Bool) → b ≡ false → (a && b) ≡ false
+no_more true b is = is
+no_more false b is = refl
+
+or_both : (a b : Bool) → (a || b) ≡ false → (a ≡ false) × (b ≡ false)
+or_both true b is = absurd (let bad = is in cc)
+or_both false b is = (refl, is)
+
+part_below : (limit k m : ℕ) (part : Part) → limit ≤ m → is_above limit part ≡ false → gives_above k m part ≡ false
+part_below limit k m (Put f) le is = no_more (f.id.kind == k) (nat_lt m f.id.number) (above_less limit m f.id.number le is)
+part_below limit k m (Remove id) le is = refl
+
+none_below : (limit k m : ℕ) (parts : List Part) → limit ≤ m → list_any (is_above limit) parts ≡ false → list_any (gives_above k m) parts ≡ false
+none_below limit k m [] le is = refl
+none_below limit k m (part ∷ parts) le is =
+    let both = or_both (is_above limit part) (list_any (is_above limit) parts) is in
+    rw (part_below limit k m part le both.0) (none_below limit k m parts le both.1)
+
+one_stays : (limit before now : ℕ) (rest : Option ℕ) → (nat_lt before now && nat_lt limit now) ≡ false → rest ≡ None → (if nat_lt before now && nat_lt limit now then Some before else rest) ≡ None
+one_stays limit before now rest stays none = rw stays none
+
+all_stay : (limit : ℕ) (befores nows : List ℕ) → length nows ≡ length befores → ((i : ℕ) → i < length befores → (nat_lt (get_or befores i 0) (get_or nows i 0) && nat_lt limit (get_or nows i 0)) ≡ false) → some_passes limit befores nows ≡ None
+unfolding some_passes
+all_stay limit [] nows same stay = refl
+all_stay limit (before ∷ befores) [] same stay = refl
+all_stay limit (before ∷ befores) (now ∷ nows) same stay =
+    one_stays limit before now (some_passes limit befores nows) (stay 0 (omega arith)) (all_stay limit befores nows (omega (arith, same)) (λ i lt. stay (suc i) (omega (arith, lt))))
+
+pub none_above : (limit : ℕ) (counters : List ℕ) (parts : List Part) → list_any (is_above limit) parts ≡ false → None ≡ some_passes limit counters (fold counted counters parts)
+none_above limit counters parts is =
+    sym (all_stay limit counters (fold counted counters parts) (counted_length counters parts)
+    (λ i lt. sym (given_above limit counters parts i lt) ∙ none_below limit i (max (get_or counters i 0) limit) parts (omega arith) is))
 
 -- ---- the greatest number
 

@@ -1,6 +1,6 @@
 -- Which limits are passed between a state and the one that a plan leaves, by what is told of the plan.
 use Rattle.std.proofs.Common.{◌≡◌, ℕ, ◌+◌, ◌≤◌, Bool, true, false, cond, List, [], ◌∷◌, length, Option, Some, None, refl, sym, ap, ◌∙◌, arith}
-use Rattle.std.specs.Prelude.{IsTrue, nat_lt, if◌then◌else◌}
+use Rattle.std.specs.Prelude.{nat_lt, if◌then◌else◌}
 use Rattle.std.specs.Option.{option_or}
 use Rattle.lock_table.specs.Held.{first_of, live, AreNumbered}
 use Rattle.lock_table.specs.Lock.{Lock}
@@ -8,13 +8,13 @@ use Rattle.lock_table.specs.Steps.{granted, renewed, released}
 use Rattle.request_plans.specs.declared.plan.LockWork.{LockWork}
 use Rattle.request_plans.specs.declared.plan.LockWork.TheVariants.{Nothing, Grant, Renew, Release}
 use Rattle.request_plans.specs.Carried.{locks_after, given_after, IsDoable}
-use Rattle.service_state.specs.Passed.{quantities_at, passed_between, locks_passed}
+use Rattle.service_state.specs.Passed.{passed_between, locks_passed}
 use Rattle.service_state.proofs.Alive.{granted_alive, renewed_alive, released_alive, granted_numbered, renewed_numbered, released_numbered}
 use Rattle.service_state.proofs.Playing.{no_more_passes}
 use Rattle.wfs_model.specs.declared.limits.FullAt.{FullAt}
-use Rattle.wfs_model.specs.declared.limits.LimitName.TheVariants.{Entries, Bytes, Features, Ids, Locks, Stored, Side}
+use Rattle.wfs_model.specs.declared.limits.LimitName.TheVariants.{Features, Ids, Locks, Stored}
 use Rattle.wfs_model.specs.declared.limits.Limits.{Limits}
-use Rattle.wfs_model.specs.Full.{Quantities, at_limit, first_passed, passes, some_passes}
+use Rattle.wfs_model.specs.Full.{at_limit, first_passed, passes, some_passes}
 use Rattle.wfs_model.specs.State.{State}
 
 -- ---- locks
@@ -76,26 +76,3 @@ pub ids_stay : (limits : Limits) (moment : ℕ) (before after : State) → passe
 unfolding first_passed first_of
 ids_stay limits moment before after none =
     ids_none _ (at_limit Features (passes limits.features (length before.features) (length after.features))) (some_passes limits.ids before.counters after.counters) none
-
--- ---- beside the limits that are counted where the journal is
-
--- the quantities that a state tells
-abbrev pub told : Quantities → Quantities
-told q = record q { entries = 0; bytes = 0; side = 0 }
-
-then_side : (a b c d e : Option FullAt) → first_of (λ passed. passed) (None ∷ None ∷ a ∷ b ∷ c ∷ d ∷ e ∷ []) ≡ option_or (first_of (λ passed. passed) (None ∷ None ∷ a ∷ b ∷ c ∷ d ∷ None ∷ [])) e
-unfolding first_of
-then_side (Some at) b c d e = refl
-then_side None (Some at) c d e = refl
-then_side None None (Some at) d e = refl
-then_side None None None (Some at) e = refl
-then_side None None None None (Some at) = refl
-then_side None None None None None = refl
-
--- where neither entries nor bytes pass, the first limit is one that the state tells, and else the side's
-pub first_is : (limits : Limits) (before now : Quantities) → passes limits.entries before.entries now.entries ≡ None → passes limits.bytes before.bytes now.bytes ≡ None
-    → first_passed limits before now ≡ option_or (first_passed limits (told before) (told now)) (at_limit Side (passes limits.side before.side now.side))
-unfolding first_passed
-first_is limits before now entries bytes =
-    rw (entries, bytes) (then_side (at_limit Features (passes limits.features before.features now.features)) (at_limit Ids (some_passes limits.ids before.ids now.ids))
-    (at_limit Locks (passes limits.locks before.locks now.locks)) (at_limit Stored (passes limits.stored before.stored now.stored)) (at_limit Side (passes limits.side before.side now.side)))

@@ -9,12 +9,11 @@ use Rattle.request_plans.specs.Carried.{HasRoom}
 use Rattle.request_plans.specs.Plan.{IsPlan, carried}
 use Rattle.service_state.specs.Passed.{passed_between}
 use Rattle.service_state.specs.Running.{Running, IsPrepared}
-use Rattle.service_state.proofs.Counters.{all_within, counted_length}
+use Rattle.service_state.proofs.Counters.{all_within}
 use Rattle.service_state.proofs.Judging.{ids_stay}
 use Rattle.wfs_model.specs.declared.change.Part.{Part}
 use Rattle.wfs_model.specs.declared.change.Change.{Change}
 use Rattle.wfs_model.specs.declared.change.Change.TheVariants.{Rows, Created, Dropped}
-use Rattle.wfs_model.specs.declared.fault.StoredFault.{StoredFault}
 use Rattle.wfs_model.specs.declared.limits.Limits.{Limits}
 use Rattle.wfs_model.specs.declared.reply.Refusal.{Refusal}
 use Rattle.wfs_model.specs.declared.request.Request.{Request}

@@ -1,5 +1,5 @@
 -- What outlives the process, by its parts; and the first limit that a plan would pass, by what is told of the plan.
-use Rattle.std.proofs.Common.{◌≡◌, ℕ, ◌+◌, ◌≤◌, List, length, Option, refl, sym, ap, ◌∙◌, subst}
+use Rattle.std.proofs.Common.{◌≡◌, ℕ, ◌+◌, List, length, Option, refl, sym, ap, ◌∙◌, subst}
 use Rattle.std.specs.Option.{option_or}
 use Rattle.feature_values.specs.declared.schema.Schema.{Schema}
 use Rattle.lock_table.specs.Held.{live, AreNumbered}

@@ -66,6 +66,11 @@ abbrev pub gives_above : ℕ → ℕ → Part → Bool
 gives_above kind number (Put f) = (f.id.kind == kind) && nat_lt number f.id.number
 gives_above kind number (Remove id) = false
 
+-- a part gives a number of any type that is above this one
+abbrev pub is_above : ℕ → Part → Bool
+is_above number (Put f) = nat_lt number f.id.number
+is_above number (Remove id) = false
+
 -- how many numbers were given by type, after a change
 abbrev pub counters_after : List ℕ → Option Change → List ℕ
 counters_after counters (Some (Rows parts)) = fold counted counters parts

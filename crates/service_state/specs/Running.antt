@@ -1,5 +1,5 @@
 -- What contracts see of the service's state in memory.
-use Rattle.std.specs.Prelude.{◌≡◌, ◌≤◌, ℕ, true, All, Result, Ok, Err}
+use Rattle.std.specs.Prelude.{◌≡◌, ◌≤◌, ℕ, true, All, Option, Result, Ok, Err}
 use Rattle.std.specs.Option.{IfSome}
 use Rattle.feature_values.specs.declared.schema.Schema.{Schema}
 use Rattle.feature_versions.specs.Holding.{Room}
@@ -9,6 +9,7 @@ use Rattle.lock_table.specs.Lock.{Locks}
 use Rattle.request_plans.specs.declared.plan.Plan.{Plan}
 use Rattle.request_plans.specs.Carried.{HasRoom, IsDoable}
 use Rattle.request_plans.specs.Plan.{CanPlay, IsPlan}
+use Rattle.wfs_model.specs.declared.change.Change.{Change}
 use Rattle.wfs_model.specs.declared.reply.Reply.{Reply}
 use Rattle.wfs_model.specs.declared.request.Request.{Request}
 use Rattle.wfs_model.specs.Kept.{IsKept}
@@ -64,11 +65,15 @@ IsPlanIn running moment request plan = IsPlan running.schema running.state momen
 abbrev pub stepped : Running → ℕ → Request → Done
 stepped running moment request = step running.schema running.state moment request
 
+-- a change, where there is one, may be played
+abbrev pub MayPlay : Schema → Durable → Option Change → Type 0
+MayPlay schema kept change = IfSome change (λ change. is_playable schema kept change ≡ true)
+
 -- A plan is prepared for a moment: it can be carried out then, and all that it needs is at hand, so that it takes no memory.
 pub record IsPrepared (plan : Plan) (moment : ℕ) (running : Running) : Type 0 where
   -- its change may be played, and there is room for it
   pub change : CanPlay running.state.stored plan.change
-  pub playable : IfSome plan.change (λ change. is_playable running.schema (durable running.state) change ≡ true)
+  pub playable : MayPlay running.schema (durable running.state) plan.change
   pub queries : IfSome plan.change (AreQueriesOf running.schema)
   pub reserved : IfSome plan.change (λ change. IsReserved change running.room)
   -- its work on locks can be done, and there is room for the lock that it grants

@@ -1,10 +1,11 @@
 //! What a plan does to what outlives the process and to locks: its memory is taken first, and then it cannot fail.
 
-ghost use Rattle.std.specs.Prelude.{◌≡◌, ◌≤◌, OnOk, true};
+ghost use Rattle.std.specs.Prelude.{◌≡◌, ◌≤◌, OnOk};
 ghost use Rattle.std.specs.Option.{IfSome, option_to_list};
 ghost use Rattle.feature_versions.specs.Reserved.{IsReserved};
 ghost use Rattle.request_plans.specs.Carried.{HasRoom, IsDoable, given_after, locks_after};
-ghost use Rattle.wfs_model.specs.Playable.{AreQueriesOf, is_playable};
+ghost use Rattle.service_state.specs.Running.{MayPlay};
+ghost use Rattle.wfs_model.specs.Playable.{AreQueriesOf};
 ghost use Rattle.wfs_model.specs.Played.{played};
 
 use feature_versions::Features;
@@ -27,7 +28,7 @@ pub(crate) fn reserve(features: &mut Features, change: &Option<Change>) -> Mem<(
 
 /// Plays a change, where there is one.
 pub(crate) fn play(features: &mut Features, change: Option<Change>)
-    requires playable { IfSome change (λ change. is_playable features.old.schema features.old.kept change ≡ true) }
+    requires playable { MayPlay features.old.schema features.old.kept change }
     requires queries { IfSome change (AreQueriesOf features.old.schema) }
     requires reserved { IfSome change (λ change. IsReserved change features.old.room) }
     ensures kept { features.new.kept ≡ played features.old.kept (option_to_list change) }

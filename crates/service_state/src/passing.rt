@@ -4,7 +4,7 @@ ghost use Rattle.std.specs.Prelude.{◌≡◌, ℕ, ◌+◌, ◌≤◌, None, If
 ghost use Rattle.std.specs.List.{fold, list_any};
 ghost use Rattle.feature_versions.specs.Types.{counted};
 ghost use Rattle.request_plans.specs.Carried.{HasRoom};
-ghost use Rattle.service_state.specs.Passed.{AreLocksPassed, FeaturesPassed, counters_after, gives_above, grants, made_by};
+ghost use Rattle.service_state.specs.Passed.{AreLocksPassed, FeaturesPassed, counters_after, gives_above, grants, is_above, made_by};
 ghost use Rattle.service_state.specs.Running.{SameLocks};
 ghost use Rattle.wfs_model.specs.Full.{at_limit, passes, some_passes};
 
@@ -66,10 +66,29 @@ fn give_above(parts: &[Part], kind: usize, number: u64) -> bool
     parts.iter().any(|part| gives_above(part, kind, number))
 }
 
+fn is_above(part: &Part, number: u64) -> bool
+    ensures { result ≡ is_above number part.now }
+{
+    match part {
+        Part::Put(feature) => number < feature.id.number,
+        Part::Remove(_) => false,
+    }
+}
+
+// Whether a part gives a number of any type that is above this one.
+fn are_above(parts: &[Part], number: u64) -> bool
+    ensures { result ≡ list_any (is_above number) parts.now }
+{
+    parts.iter().any(|part| is_above(part, number))
+}
+
 // Numbers given by parts, of which a type has at least as many as its features' greatest one.
 fn parts_passed(parts: &[Part], limit: u64, counters: &[u64]) -> Option<u64>
     ensures { result ≡ some_passes limit counters.now (fold counted counters.now parts.now) }
 {
+    if !are_above(parts, limit) {
+        return None;
+    }
     for kind in 0..counters.len() {
         if give_above(parts, kind, counters[kind].max(limit)) {
             return Some(counters[kind]);

@@ -1,4 +1,5 @@
-use Rattle.service_state.proofs.Counters.{stops_above, goes_past, no_more_types}
+use Rattle.std.proofs.Common.{sym, ◌∙◌}
+use Rattle.service_state.proofs.Counters.{stops_above, goes_past, no_more_types, none_above}
 use Rattle.service_state.proofs.passing.parts_passed.Goals as goal
 
 pub returns-then-give_above : goal.returns-then-give_above
@@ -11,3 +12,6 @@ loop-kind-preserved c =
 
 pub returns : goal.returns
 returns c = no_more_types c.args.limit c.args.counters.now c.args.parts.now c.loop-kind.kind c.loop-kind.invariant c.loop-kind-test.false
+
+pub returns-then-not-are_above : goal.returns-then-not-are_above
+returns-then-not-are_above c = none_above c.args.limit c.args.counters.now c.args.parts.now (sym c.are_above.ensures ∙ c.if-not-are_above.true)

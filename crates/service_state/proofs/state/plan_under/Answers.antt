@@ -1,4 +1,4 @@
-use Rattle.std.proofs.Common.{◌≡◌, sym, ap, ◌∙◌, subst}
+use Rattle.std.proofs.Common.{sym, ◌∙◌, subst}
 use Rattle.wfs_model.specs.State.{Durable}
 use Rattle.wfs_model.specs.Kept.{IsKept}
 use Rattle.service_state.proofs.Telling.{durable_is}

@@ -1,4 +1,4 @@
-use Rattle.std.proofs.Common.{◌≡◌, ◌≤◌, All, None, sym, ap, ◌∙◌, subst}
+use Rattle.std.proofs.Common.{◌≡◌, ◌≤◌, All, sym, ap, ◌∙◌, subst}
 use Rattle.request_plans.specs.Carried.{HasRoom}
 use Rattle.service_state.specs.Running.{Running, state_of}
 use Rattle.service_state.proofs.Making.{is_prepared}

@@ -1,10 +1,8 @@
-use Rattle.std.proofs.Common.{◌≡◌, ℕ, List, length, sym, ap, ◌∙◌, subst, ◌+◌}
+use Rattle.std.proofs.Common.{◌≡◌, ℕ, List, length, ◌∙◌, subst, ◌+◌}
 use Rattle.lock_table.specs.Held.{AreNumbered}
-use Rattle.request_plans.specs.Plan.{IsPlan}
 use Rattle.service_state.specs.Passed.{IsPassedBy, FeaturesPassed, counters_after, made_by}
 use Rattle.service_state.specs.Running.{Running}
 use Rattle.service_state.proofs.Telling.{first_told, chained}
-use Rattle.wfs_model.specs.declared.request.Request.{Request}
 use Rattle.wfs_model.specs.declared.stored.StoredQuery.{StoredQuery}
 use Rattle.wfs_model.specs.Full.{passes, some_passes}
 use Rattle.service_state.proofs.state.ServiceState.would_pass.Goals as goal
