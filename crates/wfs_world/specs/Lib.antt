@@ -1,0 +1,6 @@
+pub mod Events
+pub mod Happening
+pub mod Kept
+pub mod Scene
+pub mod Sound
+pub mod Turns
