@@ -7,7 +7,7 @@ ghost use Rattle.wfs_world.specs.Kept.{IsMet};
 ghost use Rattle.wfs_world.specs.Scene.{stage_of, state_of};
 
 use crate::scene::{Scene, push_some};
-use crate::turn::{Stage, Turn, put_in, put_out};
+use crate::turn::{Stage, Turn, put_in, put_out, set_turn};
 use wfs_ends::Mem;
 use wfs_machine::Plain;
 use wfs_model::Request;
@@ -45,7 +45,7 @@ impl Scene {
         push_some(&mut self.entries, now);
         set_front(&mut self.fronts, seat, self.entries.len() as u64);
         let stage = Stage::Entered(reply);
-        self.turn = Some(Turn { seat, stage });
+        set_turn(&mut self.turn, Turn { seat, stage });
         Ok(())
     }
 

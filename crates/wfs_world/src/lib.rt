@@ -16,7 +16,8 @@ mod world;
 
 pub use event::{Event, PutOutcome, Seen, WorldFault};
 pub use laws::{
-    a_new_opening_has_all_that_entered, answers_are_the_replies_of_the_history, whatever_happens_is_sound, what_has_entered_stays,
+    a_new_opening_has_all_that_entered, answers_are_the_replies_of_the_history,
+    what_has_entered_stays, whatever_happens_is_sound,
 };
 pub use world::World;
 

@@ -13,12 +13,7 @@ use wfs_machine::Plain;
 use wfs_model::{Change, Entry};
 
 /// A machine that has just opened on a journal with these changes.
-pub(crate) fn open_on(
-    alloc: Global,
-    schema: &Schema,
-    changes: &[Change],
-    number: u64,
-) -> Mem<Plain>
+pub(crate) fn open_on(alloc: Global, schema: &Schema, changes: &[Change], number: u64) -> Mem<Plain>
     requires { ArePlayed schema.now changes.now }
     ensures { IfOk result (λ m. m ≡ record { schema = schema.now; state = opened (kept_by schema.now changes.now) number }) }
 {

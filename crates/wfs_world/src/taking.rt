@@ -19,7 +19,11 @@ use wfs_ends::{Mem, OutOfMemory};
 use wfs_model::{Change, Entry};
 
 /// Whether the journal may take a change so, or that there is none.
-pub(crate) fn is_outcome(begun: &Option<Change>, change: &Option<Change>, outcome: PutOutcome) -> bool
+pub(crate) fn is_outcome(
+    begun: &Option<Change>,
+    change: &Option<Change>,
+    outcome: PutOutcome,
+) -> bool
     ensures { IsTrue result ↔ IsOutcome begun.now change.now outcome }
 {
     match outcome {

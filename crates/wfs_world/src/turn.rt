@@ -1,12 +1,13 @@
 //! The request in turn, and how far it has come.
 
-ghost use Rattle.std.specs.Prelude.{◌≡◌, ◌↔◌, IsTrue};
+ghost use Rattle.std.specs.Prelude.{◌≡◌, ◌↔◌, IsTrue, Some};
 ghost use Rattle.std.specs.Option.{option_copied};
 ghost use Rattle.wfs_world.specs.Events.{MayEnter, MayLeave, stage_after, seen_at_last};
 ghost use Rattle.wfs_world.specs.Scene.{stage_in};
 ghost use Rattle.wfs_world.specs.Turns.{stage_at, turn_put, put_in, at_moment};
 
 use crate::event::{PutOutcome, Seen};
+use std::mem::drop;
 use wfs_model::{Entry, Reply};
 
 /// How far the request in turn has come.
@@ -54,10 +55,12 @@ pub(crate) fn put_on(turn: Option<Turn>, outcome: PutOutcome) -> Option<Turn>
     ensures { result ≡ turn_put turn outcome }
 {
     match turn {
-        Some(Turn {
-            seat,
-            stage: Stage::Taken(entry),
-        }) => Some(Turn {
+        Some(
+            Turn {
+                seat,
+                stage: Stage::Taken(entry),
+            },
+        ) => Some(Turn {
             seat,
             stage: stage_after(entry, outcome),
         }),
@@ -90,14 +93,18 @@ pub(crate) fn seen_at_last(turn: Option<Turn>) -> Seen
     ensures { result ≡ seen_at_last (stage_at turn) }
 {
     match turn {
-        Some(Turn {
-            stage: Stage::Entered(reply),
-            ..
-        }) => Seen::Answer(reply),
-        Some(Turn {
-            stage: Stage::Faulted,
-            ..
-        }) => Seen::Fault,
+        Some(
+            Turn {
+                stage: Stage::Entered(reply),
+                ..
+            },
+        ) => Seen::Answer(reply),
+        Some(
+            Turn {
+                stage: Stage::Faulted,
+                ..
+            },
+        ) => Seen::Fault,
         _ => Seen::Nothing,
     }
 }
@@ -107,10 +114,12 @@ pub(crate) fn put_in(turn: &Option<Turn>) -> Option<&Entry>
     ensures { option_copied result ≡ put_in turn.now }
 {
     match turn {
-        Some(Turn {
-            stage: Stage::Put(entry),
-            ..
-        }) => Some(entry),
+        Some(
+            Turn {
+                stage: Stage::Put(entry),
+                ..
+            },
+        ) => Some(entry),
         _ => None,
     }
 }
@@ -120,10 +129,19 @@ pub(crate) fn put_out(turn: Option<Turn>, moment: u64) -> Option<Entry>
     ensures { result ≡ at_moment moment (put_in turn) }
 {
     match turn {
-        Some(Turn {
-            stage: Stage::Put(entry),
-            ..
-        }) => Some(Entry { moment, ..entry }),
+        Some(
+            Turn {
+                stage: Stage::Put(entry),
+                ..
+            },
+        ) => Some(Entry { moment, ..entry }),
         _ => None,
     }
+}
+
+/// Another turn, in place of what was there.
+pub(crate) fn set_turn(turn: &mut Option<Turn>, now: Turn)
+    ensures { turn.new ≡ Some now }
+{
+    drop(turn.replace(now));
 }
