@@ -1,0 +1,10 @@
+pub mod Anew
+pub mod Answering
+pub mod Entries
+pub mod Histories
+pub mod Journals
+pub mod Leading
+pub mod Openings
+pub mod Replying
+pub mod Sequences
+pub mod Worlds

@@ -1,0 +1,256 @@
+//! Events over one or two seats. What is seen was worked out by hand.
+
+ghost use Rattle.std.specs.Prelude.{◌≡◌, IfOk, All};
+ghost use Rattle.wfs_model.specs.OfSchema.{IsOfSchema};
+ghost use Rattle.transaction_core.specs.Marks.{AreMarks};
+ghost use Rattle.wfs_world.specs.Events.{IsEventOf};
+
+use super::*;
+use feature_values::Schema;
+use std::alloc::Global;
+use wfs_ends::{List, Mem};
+use wfs_model::{Reply, Request};
+
+mod marks;
+
+use marks::{counts, deletes, inserts, locks, schema};
+
+/// What is asked.
+#[derive(Clone, Copy, Debug, PartialEq, Eq)]
+enum Ask {
+    /// Two marks are inserted.
+    Insert,
+    /// The first mark is locked for a minute.
+    Lock,
+    /// The first mark is deleted under that lock.
+    Delete,
+}
+
+/// What happens.
+#[derive(Clone, Copy, Debug, PartialEq, Eq)]
+enum Does {
+    /// A request arrives, with the moment that is handed in.
+    Arrive(u32, u64, Ask),
+    Take(u32),
+    Put(u32, PutOutcome),
+    Enter(u32),
+    Leave(u32),
+    /// The marks are counted at a front.
+    Count(u32, u64),
+    Crash(bool),
+    Reopen,
+}
+
+/// What is seen.
+enum Want {
+    Nothing,
+    NotNow,
+    Fault,
+    /// Two marks were inserted, the first under this number.
+    Inserted(u64),
+    /// One lock was taken.
+    Locked,
+    /// So many marks were deleted.
+    Deleted(u64),
+    Count(u64),
+    Opening(u64),
+}
+
+type Step = (Does, Want);
+
+/// A fault that leaves the change begun, and a crash that finds it.
+static FOUND: [Step; 7] = [
+    (Does::Arrive(0, 1000, Ask::Insert), Want::Nothing),
+    (Does::Take(0), Want::Nothing),
+    (Does::Put(0, PutOutcome::FaultBegun), Want::Nothing),
+    (Does::Leave(0), Want::Fault),
+    (Does::Crash(true), Want::Nothing),
+    (Does::Reopen, Want::Opening(2)),
+    (Does::Count(0, 0), Want::Count(2)),
+];
+
+/// Each event in its turn and none before it, and reads of both states.
+static TURNS: [Step; 26] = [
+    (Does::Take(0), Want::NotNow),
+    (Does::Arrive(2, 1000, Ask::Insert), Want::NotNow),
+    (Does::Arrive(0, 1000, Ask::Insert), Want::Nothing),
+    (Does::Arrive(0, 1000, Ask::Insert), Want::NotNow),
+    (Does::Arrive(1, 900, Ask::Insert), Want::Nothing),
+    (Does::Put(0, PutOutcome::Done), Want::NotNow),
+    (Does::Take(1), Want::NotNow),
+    (Does::Take(0), Want::Nothing),
+    (Does::Take(1), Want::NotNow),
+    (Does::Enter(0), Want::NotNow),
+    (Does::Put(0, PutOutcome::NotNeeded), Want::NotNow),
+    (Does::Put(0, PutOutcome::FaultHeld), Want::NotNow),
+    (Does::Put(0, PutOutcome::Done), Want::Nothing),
+    (Does::Leave(0), Want::NotNow),
+    (Does::Enter(0), Want::Nothing),
+    (Does::Leave(0), Want::Inserted(1)),
+    (Does::Count(1, 0), Want::Count(0)),
+    (Does::Count(0, 0), Want::NotNow),
+    (Does::Count(1, 2), Want::NotNow),
+    (Does::Count(1, 1), Want::Count(2)),
+    (Does::Reopen, Want::NotNow),
+    (Does::Take(1), Want::Nothing),
+    (Does::Put(1, PutOutcome::Done), Want::Nothing),
+    (Does::Enter(1), Want::Nothing),
+    (Does::Leave(1), Want::Inserted(3)),
+    (Does::Crash(true), Want::NotNow),
+];
+
+/// A lock that was handed an earlier moment lives from the last one on: a minute later less a second it is still there.
+static LOCKED: [Step; 15] = [
+    (Does::Arrive(0, 1000, Ask::Insert), Want::Nothing),
+    (Does::Take(0), Want::Nothing),
+    (Does::Put(0, PutOutcome::Done), Want::Nothing),
+    (Does::Enter(0), Want::Nothing),
+    (Does::Leave(0), Want::Inserted(1)),
+    (Does::Arrive(0, 900, Ask::Lock), Want::Nothing),
+    (Does::Take(0), Want::Nothing),
+    (Does::Put(0, PutOutcome::NotNeeded), Want::Nothing),
+    (Does::Enter(0), Want::Nothing),
+    (Does::Leave(0), Want::Locked),
+    (Does::Arrive(0, 1059, Ask::Delete), Want::Nothing),
+    (Does::Take(0), Want::Nothing),
+    (Does::Put(0, PutOutcome::Done), Want::Nothing),
+    (Does::Enter(0), Want::Nothing),
+    (Does::Leave(0), Want::Deleted(1)),
+];
+
+fn request(alloc: Global, schema: &Schema, ask: Ask) -> Mem<Request>
+    requires { AreMarks schema.now }
+    ensures { IfOk result (IsOfSchema schema.now) }
+{
+    match ask {
+        Ask::Insert => inserts(alloc, schema),
+        Ask::Lock => locks(alloc, schema),
+        Ask::Delete => deletes(alloc, schema),
+    }
+}
+
+fn event(alloc: Global, schema: &Schema, does: Does) -> Mem<Event>
+    requires { AreMarks schema.now }
+    ensures { IfOk result (IsEventOf schema.now) }
+{
+    Ok(match does {
+        Does::Arrive(seat, moment, ask) => Event::Arrive {
+            seat,
+            moment,
+            size: 0,
+            request: request(alloc, schema, ask)?,
+        },
+        Does::Take(seat) => Event::Take { seat },
+        Does::Put(seat, outcome) => Event::Put { seat, outcome },
+        Does::Enter(seat) => Event::Enter { seat },
+        Does::Leave(seat) => Event::Leave { seat },
+        Does::Count(seat, front) => Event::Read {
+            seat,
+            front,
+            moment: 1000,
+            request: counts(alloc)?,
+        },
+        Does::Crash(with_begun) => Event::Crash { with_begun },
+        Does::Reopen => Event::Reopen,
+    })
+}
+
+fn is_answer(reply: &Reply, want: &Want) -> bool {
+    match (reply, want) {
+        (Reply::Transacted { inserted, .. }, Want::Inserted(number)) => match inserted.items() {
+            [first, _] => first.id.number == *number,
+            _ => false,
+        },
+        (Reply::Transacted { deleted, .. }, Want::Deleted(count)) => deleted == count,
+        (Reply::Locked { lock, .. }, Want::Locked) => lock.is_some(),
+        (Reply::Collection { matched, .. }, Want::Count(count)) => matched == count,
+        _ => false,
+    }
+}
+
+fn is_seen(seen: &Seen, want: &Want) -> bool {
+    match (seen, want) {
+        (Seen::Nothing, Want::Nothing) | (Seen::Fault, Want::Fault) => true,
+        (Seen::Answer(reply), _) => is_answer(reply, want),
+        (Seen::Reopened(number), Want::Opening(opening)) => number == opening,
+        _ => false,
+    }
+}
+
+fn is_as(seen: &Result<Seen, WorldFault>, want: &Want) -> bool {
+    match seen {
+        Ok(seen) => is_seen(seen, want),
+        Err(WorldFault::NotNow) => matches!(want, Want::NotNow),
+        Err(WorldFault::OutOfMemory) => false,
+    }
+}
+
+// The first event of which something else is seen.
+fn first_of(alloc: Global, world: &mut World, schema: &Schema, steps: &[Step]) -> Mem<Option<usize>>
+    requires marks { AreMarks schema.now }
+    requires schema { world.old.schema ≡ schema.now }
+{
+    for i in 0..steps.len() {
+        let (does, want) = &steps[i];
+        let seen = world.step(event(alloc, schema, *does)?);
+        if !is_as(&seen, want) {
+            return Ok(Some(i));
+        }
+    }
+    Ok(None)
+}
+
+// The first wrong event of a world with so many seats.
+fn first_wrong(alloc: Global, seats: u32, steps: &[Step]) -> Mem<Option<usize>> {
+    let schema = schema(alloc)?;
+    let mut world = World::new(alloc, schema.copy(alloc)?, seats)?;
+    first_of(alloc, &mut world, &schema, steps)
+}
+
+#[test]
+fn each_event_happens_in_its_turn(rt: HostRuntime) {
+    assert_eq!(rt; first_wrong(rt.alloc(), 2, &TURNS), Ok(None));
+}
+
+#[test]
+fn a_lock_lives_from_the_moment_of_its_entry(rt: HostRuntime) {
+    assert_eq!(rt; first_wrong(rt.alloc(), 1, &LOCKED), Ok(None));
+}
+
+fn events(alloc: Global, schema: &Schema) -> Mem<List<Event>>
+    requires { AreMarks schema.now }
+    ensures { IfOk result (All (IsEventOf schema.now)) }
+{
+    let mut events = Vec::new(alloc);
+    for (does, _) in &FOUND {
+        events.push(event(alloc, schema, *does)?)?;
+    }
+    Ok(List::of(events))
+}
+
+fn are_seen(seen: &[Seen]) -> bool {
+    if seen.len() != FOUND.len() {
+        return false;
+    }
+    for (one, (_, want)) in seen.iter().zip(&FOUND) {
+        if !is_seen(one, want) {
+            return false;
+        }
+    }
+    true
+}
+
+fn is_found(alloc: Global) -> Mem<bool> {
+    let schema = schema(alloc)?;
+    let events = events(alloc, &schema)?;
+    let mut world = World::new(alloc, schema, 2)?;
+    match world.run(events) {
+        Ok(seen) => Ok(are_seen(seen.items())),
+        Err(_) => Ok(false),
+    }
+}
+
+#[test]
+fn a_crash_finds_what_a_fault_has_begun(rt: HostRuntime) {
+    assert_eq!(rt; is_found(rt.alloc()), Ok(true));
+}
