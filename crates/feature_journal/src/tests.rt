@@ -78,7 +78,8 @@ fn run_side<D: Disk + Drop>(disks: Pair<D>) -> Result<(bool, bool, Pair<D>), Fai
 }
 
 // The body that says the first start: its opening, 1, and the types and properties of its schema, 89 bytes long.
-const OPENING: &[u8; 102] = b"\x01\0\0\0\0\0\0\0\x01\0\0\0\x59Mark(label:text,size:integer,place:point);Field(name:text,area:polygon);Way(course:line);";
+const OPENING: &[u8; 102] =
+    b"\x01\0\0\0\0\0\0\0\x01\0\0\0\x59Mark(label:text,size:integer,place:point);Field(name:text,area:polygon);Way(course:line);";
 
 // Adds that record to a fresh journal, and then this one: the lengths after each, the generation and the disks.
 fn run_lengths<D: Disk + Drop>(
