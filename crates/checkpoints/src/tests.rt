@@ -66,6 +66,9 @@ fn run<D: Disk + Drop>(
     }
 }
 
+// side a, of generation 1 with no record: no call of a checkpoint changes it
+const FIRST: &[u8] = b"\x01WFSJNL\x01\0\0\0\0\0\0\0\x01\0";
+
 // generation 2 with both records, behind an open byte 0 and a closed one
 const MADE: &[u8] = b"\x01WFSJNL\x01\0\0\0\0\0\0\0\x02\x01\0\0\0\x02hi\x01\0\0\0\x02ho\0";
 
@@ -73,7 +76,7 @@ const CLOSED: &[u8] = b"\0WFSJNL\x01\0\0\0\0\0\0\0\x02\x01\0\0\0\x02hi\x01\0\0\0
 
 // The call from which on side b fails, whether the checkpoint is made, whether its side is begun, how many writes since the
 // last sync a crash keeps, and what it leaves of side b. The calls are a read, byte 0 and a sync; the cut and the head; the
-// two records; the closed gate and a sync; byte 0 and a sync.
+// two records; the closed gate and a sync; byte 0 and a sync. Side a is left as it is.
 static STOPS: &[(u64, bool, bool, u32, &[u8])] = &[
     (0, false, false, 9, b""),
     (1, false, false, 9, b""),
@@ -123,8 +126,10 @@ fn ends_so(
 ) -> bool {
     let (answer, journal) = ran;
     let is_as_told = answer.is_ok() == is_made && journal.is_begun() == is_begun;
-    let Pair { a: _a, b } = journal.into_disks();
-    is_as_told && leaves(b, keep, want)
+    let Pair { a, b } = journal.into_disks();
+    let is_left = leaves(a, keep, FIRST);
+    let is_so = leaves(b, keep, want);
+    is_as_told && is_left && is_so
 }
 
 fn first_left_otherwise(alloc: Global) -> Result<Option<usize>, Fail> {

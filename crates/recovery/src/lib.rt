@@ -21,4 +21,6 @@ pub use replay::{Replay, ReplayFault};
 #[cfg(test)]
 mod rows;
 #[cfg(test)]
+mod stops;
+#[cfg(test)]
 mod tests;

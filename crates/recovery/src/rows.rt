@@ -5,24 +5,16 @@ use crate::RecoverFault;
 pub(crate) const EMPTY: &[u8] = b"";
 
 // generation 1 with no record, and with the record `hi`
-const NONE: &[u8] = b"\x01WFSJNL\x01\0\0\0\0\0\0\0\x01\0";
+pub(crate) const NONE: &[u8] = b"\x01WFSJNL\x01\0\0\0\0\0\0\0\x01\0";
 
-const HI: &[u8] = b"\x01WFSJNL\x01\0\0\0\0\0\0\0\x01\x01\0\0\0\x02hi\0";
+pub(crate) const HI: &[u8] = b"\x01WFSJNL\x01\0\0\0\0\0\0\0\x01\x01\0\0\0\x02hi\0";
 
-// the same with a tail behind the ending gate, torn and closed
-const TAILED: &[u8] = b"\x01WFSJNL\x01\0\0\0\0\0\0\0\x01\x01\0\0\0\x02hi\x05\0\0\0\x02ho\0";
+// the same with a tail behind the ending gate, which is torn
+pub(crate) const TAILED: &[u8] =
+    b"\x01WFSJNL\x01\0\0\0\0\0\0\0\x01\x01\0\0\0\x02hi\x05\0\0\0\x02ho\0";
 
-const TAIL_CLOSED: &[u8] = b"\x01WFSJNL\x01\0\0\0\0\0\0\0\x01\x01\0\0\0\x02hi\0\0\0\0\x02ho\0";
-
-// generation 2 with the record `hi`, behind a byte 0 that is stale, and closed
-const STALE: &[u8] = b"\x07WFSJNL\x01\0\0\0\0\0\0\0\x02\x01\0\0\0\x02hi\0";
-
-const STALE_CLOSED: &[u8] = b"\0WFSJNL\x01\0\0\0\0\0\0\0\x02\x01\0\0\0\x02hi\0";
-
-// a first side that is not current yet
-const NONE_CLOSED: &[u8] = b"\0WFSJNL\x01\0\0\0\0\0\0\0\x01\0";
-
-const ZERO: &[u8] = b"\0";
+// generation 2 with the record `hi`, behind a byte 0 that is stale
+pub(crate) const STALE: &[u8] = b"\x07WFSJNL\x01\0\0\0\0\0\0\0\x02\x01\0\0\0\x02hi\0";
 
 // Both files, of which no side is current: a new journal has generation 1 and 17 bytes.
 pub(crate) static NEW: &[(&[u8], &[u8])] = &[
@@ -343,43 +335,4 @@ pub(crate) static FAULTS: &[(&[u8], &[u8], u64, RecoverFault)] = &[
         30,
         RecoverFault::Full(31),
     ),
-];
-
-// Both files, and the call from which on a disk fails, which is that of side b where true. Whether they are recovered all the
-// same, how many writes since the last sync a crash keeps, and what it leaves of that side.
-pub(crate) static STOPS: &[(&[u8], &[u8], bool, u64, bool, u32, &[u8])] = &[
-    // a tail stands behind the ending gate: a sync; a read of the head; the length and all bytes; the gate and a sync
-    (TAILED, EMPTY, false, 0, false, 9, TAILED),
-    (TAILED, EMPTY, false, 1, false, 9, TAILED),
-    (TAILED, EMPTY, false, 2, false, 9, TAILED),
-    (TAILED, EMPTY, false, 3, false, 9, TAILED),
-    (TAILED, EMPTY, false, 4, false, 9, TAILED),
-    (TAILED, EMPTY, false, 5, false, 0, TAILED),
-    (TAILED, EMPTY, false, 5, false, 1, TAIL_CLOSED),
-    (TAILED, EMPTY, false, 6, true, 0, TAIL_CLOSED),
-    // side b is stale: a sync; a read of the head; byte 0 and a sync
-    (HI, STALE, true, 0, false, 9, STALE),
-    (HI, STALE, true, 1, false, 9, STALE),
-    (HI, STALE, true, 2, false, 9, STALE),
-    (HI, STALE, true, 3, false, 0, STALE),
-    (HI, STALE, true, 3, false, 1, STALE_CLOSED),
-    (HI, STALE, true, 4, true, 0, STALE_CLOSED),
-    // its closed ending gate is not written, but synced
-    (HI, STALE, false, 4, false, 9, HI),
-    (HI, STALE, false, 5, true, 0, HI),
-    // no side is current: a sync; a read of the head; then side a is made, with a read, byte 0 and a sync, the cut, the rest and a sync, byte 0 and a sync
-    (EMPTY, EMPTY, false, 0, false, 9, EMPTY),
-    (EMPTY, EMPTY, false, 1, false, 9, EMPTY),
-    (EMPTY, EMPTY, false, 2, false, 9, EMPTY),
-    (EMPTY, EMPTY, false, 3, false, 9, EMPTY),
-    (EMPTY, EMPTY, false, 4, false, 0, EMPTY),
-    (EMPTY, EMPTY, false, 4, false, 1, ZERO),
-    (EMPTY, EMPTY, false, 5, false, 9, ZERO),
-    (EMPTY, EMPTY, false, 6, false, 9, ZERO),
-    (EMPTY, EMPTY, false, 7, false, 1, ZERO),
-    (EMPTY, EMPTY, false, 7, false, 2, NONE_CLOSED),
-    (EMPTY, EMPTY, false, 8, false, 9, NONE_CLOSED),
-    (EMPTY, EMPTY, false, 9, false, 0, NONE_CLOSED),
-    (EMPTY, EMPTY, false, 9, false, 1, NONE),
-    (EMPTY, EMPTY, false, 10, true, 0, NONE),
 ];

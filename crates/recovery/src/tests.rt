@@ -5,7 +5,8 @@ ghost use Rattle.feature_journal.specs.Kept.{greatest_side};
 ghost use Rattle.recovery.specs.Replay.Verdict.{accepted, bad_bytes, not_of_schema};
 
 use super::*;
-use crate::rows::{EMPTY, FAULTS, JOURNALS, NEW, NO_JOURNALS, STOPS};
+use crate::rows::{EMPTY, FAULTS, JOURNALS, NEW, NO_JOURNALS};
+use crate::stops::STOPS;
 use disk_core::{Disk, MemDisk, Pair};
 use std::alloc::Global;
 use std::test::Fail;
@@ -159,29 +160,30 @@ fn leaves(disk: MemDisk, keep: u32, want: &[u8]) -> bool {
     }
 }
 
-// Whether the recovery of disks of which one fails from this call on ends so, and then whether a crash leaves these bytes of it.
+// Whether the recovery of disks ends so, and then whether a crash leaves these bytes of each.
 fn ends_so(
     disks: (bool, Pair<MemDisk>),
-    on_b: bool,
     is_done: bool,
     keep: u32,
-    want: &[u8],
+    want_a: &[u8],
+    want_b: &[u8],
 ) -> bool {
     let (done, disks) = disks;
     let Pair { a, b } = disks;
-    let disk = if on_b { b } else { a };
-    done == is_done && leaves(disk, keep, want)
+    let is_a = leaves(a, keep, want_a);
+    let is_b = leaves(b, keep, want_b);
+    done == is_done && is_a && is_b
 }
 
 fn first_left_otherwise(alloc: Global) -> Mem<Option<usize>> {
-    for (i, (a, b, on_b, call, is_done, keep, want)) in STOPS.iter().enumerate() {
+    for (i, (a, b, on_b, call, is_done, keep, want_a, want_b)) in STOPS.iter().enumerate() {
         let (stop_a, stop_b) = if *on_b {
             (None, Some(*call))
         } else {
             (Some(*call), None)
         };
         let (a, b) = (disk_of(alloc, a, stop_a)?, disk_of(alloc, b, stop_b)?);
-        if !ends_so(run(alloc, Pair { a, b }), *on_b, *is_done, *keep, want) {
+        if !ends_so(run(alloc, Pair { a, b }), *is_done, *keep, want_a, want_b) {
             return Ok(Some(i));
         }
     }
