@@ -115,6 +115,7 @@ pub fn recover<D: Disk, R: Replay>(
     ensures crash_err { IfErr result (λ e. (a b : List ℕ) (lists : List (List (List ℕ))) → D.shown disks.a ≡ Some a → D.shown disks.b ≡ Some b → (s : Says lists a b) → AfterSync D.shown D.moment D.since D.images (WithTail lists s) disks e.0) }
     ensures nothing { IfOk result (λ j. (a b : List ℕ) → D.shown disks.a ≡ Some a → D.shown disks.b ≡ Some b → Unmade a → Unmade b → AfterSync D.shown D.moment D.since D.images Nothing disks (disks_of j)) }
     ensures nothing_err { IfErr result (λ e. (a b : List ℕ) → D.shown disks.a ≡ Some a → D.shown disks.b ≡ Some b → Unmade a → Unmade b → AfterSync D.shown D.moment D.since D.images Nothing disks e.0) }
+    ensures setting { R.setting replay.new ≡ R.setting replay.old }
     ensures verdict { R.verdict replay.new ≡ R.verdict replay.old }
     ensures count { IfOk result (λ j. NoneFell D.faults disks (disks_of j)) }
     ensures count_err { IfErr result (λ e. NoneFell D.faults disks e.0) }
@@ -144,6 +145,7 @@ pub fn look_over<D: Disk, R: Replay>(
     ensures answer { IfOk result (λ n. (a b : List ℕ) → D.shown disks.old.a ≡ Some a → D.shown disks.old.b ≡ Some b → LengthIs n (outcome_of (R.verdict replay.old) side a b) (R.taken replay.new)) }
     ensures refused { IfErr result (λ e. (a b : List ℕ) → D.shown disks.old.a ≡ Some a → D.shown disks.old.b ≡ Some b → RefusesOr e (outcome_of (R.verdict replay.old) side a b) (R.taken replay.new)) }
     ensures unwritten { Untouched D.shown D.moment D.since D.images disks.old disks.new }
+    ensures setting { R.setting replay.new ≡ R.setting replay.old }
     ensures verdict { R.verdict replay.new ≡ R.verdict replay.old }
     ensures count { NoneFell D.faults disks.old disks.new }
     ensures cause { result ≡ Err RecoverFault.DiskFault → OneRose D.faults disks.old disks.new }
