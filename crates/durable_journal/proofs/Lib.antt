@@ -1,0 +1,6 @@
+pub mod Holding
+pub mod Checkpointed
+pub mod Saying
+pub mod Changing
+pub mod Shorter
+pub mod Openings
