@@ -4,3 +4,4 @@ pub mod Saying
 pub mod Changing
 pub mod Shorter
 pub mod Openings
+pub mod Looks
