@@ -1,5 +1,6 @@
 -- What is recovered is opened.
-use Rattle.std.proofs.Common.{◌≡◌, ◌⊎◌, inl, inr, ℕ, ◌+◌, ◌<◌, ◌==◌, true, false, List, [], ◌∷◌, ◌++◌, length, All, Option, refl, sym, ◌∙◌, subst, arith}
+use Rattle.std.proofs.Common.{◌≡◌, ◌⊎◌, inl, inr, ℕ, ◌+◌, ◌<◌, ◌==◌, true, false, List, [], ◌∷◌, ◌++◌, length, All, Option, refl, sym, ◌∙◌, subst, arith, Result, Ok, Err}
+use Rattle.std.specs.Prelude.{IfOk, IfErr}
 use Rattle.std.proofs.lemmas.List.Elements.{All-head, All-tail}
 use Rattle.disk_core.specs.Sides.{Within, Always}
 use Rattle.disk_core.specs.Sides.Always.{once}
@@ -34,12 +35,13 @@ use Rattle.durable_journal.specs.Faults.{from_recovery}
 use Rattle.durable_journal.specs.Standing.{ComeTo, SaysKept, SaysOpened, next_opening}
 use Rattle.durable_journal.specs.Holdable.{IsHoldable}
 use Rattle.durable_journal.specs.Kept.{Holds, IsAtRest}
-use Rattle.durable_journal.specs.Opened.{last_opening, AreBodiesOf, CannotOpen, IsFull, IsRefusal, IsOfBytes}
+use Rattle.durable_journal.specs.declared.opening.Opened.{Opened}
+use Rattle.durable_journal.specs.Opened.{IsOpened, last_opening, AreBodiesOf, CannotOpen, IsFull, IsRefusal, IsOfBytes}
 use Rattle.durable_journal.proofs.Saying.{with_says}
 
 -- ---- the record of the next opening
 
-next_may : (schema : Schema) (kept : Durable) → is_playable schema kept (next_opening kept) ≡ true
+pub next_may : (schema : Schema) (kept : Durable) → is_playable schema kept (next_opening kept) ≡ true
 unfolding is_playable
 next_may schema kept = grind arith
 
@@ -162,3 +164,36 @@ module _ {D : Type 0} (shown : D → Option (List ℕ)) (moment : D → ℕ) (si
   pub synced_on : (P Q : List ℕ → List ℕ → Type 0) (old mid new : Pair D) → OnceSynced shown moment since images P old mid → Always moment since Q mid new → AfterSync shown moment since images (λ x y. P x y ⊎ Q x y) old new
   synced_on P Q old mid new first more =
       inr (first.0, first.1, first.2, always_on moment since (λ x y. P x y ⊎ Q x y) first.0 mid new (always_more moment since P (λ x y. P x y ⊎ Q x y) first.0 mid (λ x y p. inl p) first.3) (always_more moment since Q (λ x y. P x y ⊎ Q x y) mid new (λ x y q. inr q) more))
+
+-- bytes that are refused are not a failed disk
+pub no_disk : (fault : RecoverFault) → IsOfBytes (from_recovery fault) → fault ≡ recovering.DiskFault → ⊥
+no_disk fault of_bytes is = subst (λ f. IsOfBytes (from_recovery f)) is of_bytes
+
+-- ---- what is answered
+
+module _ {D E : Type 0} (images : D → List ℕ → Type 0) (schema : Schema) (limit : ℕ) (from : Opened D) (r : Result (Opened D) E) where
+  pub is_opened : from.features.schema ≡ schema → ComeTo schema from.features.kept from.bodies → limit_of from.journal ≡ limit → IfOk r (λ o. from.features.kept.opening < last_opening) → IfOk r (λ o. o.features.kept ≡ played_one from.features.kept (next_opening from.features.kept))
+      → IfOk r (λ o. o.features.schema ≡ from.features.schema) → IfOk r (λ o. o.bodies ≡ from.bodies) → IfOk r (λ o. IsAtRest images o.features.schema o.features.kept o.journal) → IfOk r (λ o. limit_of o.journal ≡ limit_of from.journal) → IfOk r (IsOpened images schema limit)
+  is_opened schema_is come limit_is below now same bodies rests still = by_case r below now same bodies rests still
+    where
+      by_case : (r : Result (Opened D) E) → IfOk r (λ o. from.features.kept.opening < last_opening) → IfOk r (λ o. o.features.kept ≡ played_one from.features.kept (next_opening from.features.kept))
+          → IfOk r (λ o. o.features.schema ≡ from.features.schema) → IfOk r (λ o. o.bodies ≡ from.bodies) → IfOk r (λ o. IsAtRest images o.features.schema o.features.kept o.journal) → IfOk r (λ o. limit_of o.journal ≡ limit_of from.journal) → IfOk r (IsOpened images schema limit)
+      by_case (Ok o) below now same bodies rests still = record {
+        kept = from.features.kept;
+        come = subst (ComeTo schema from.features.kept) (sym bodies) come;
+        below = below;
+        now = now;
+        schema_is = same ∙ schema_is;
+        rests = subst (λ s. IsAtRest images s o.features.kept o.journal) (same ∙ schema_is) rests;
+        limit_is = still ∙ limit_is;
+      }
+      by_case (Err e) below now same bodies rests still = tt
+
+pub by_fault : {T A : Type 0} (r : Result T (A × OpenFault)) (C : ℕ → Type 0) (Q : OpenFault → Type 0) → ((fault : OpenFault) → (IsOfBytes fault → ⊥) → ((sum : ℕ) → fault ≡ Full sum → C sum) → Q fault)
+    → IfErr r (λ e. IsOfBytes e.1 → ⊥) → ((sum : ℕ) → IfErr r (λ e. e.1 ≡ Full sum → C sum)) → IfErr r (λ e. Q e.1)
+by_fault (Ok o) C Q refuses later full = tt
+by_fault (Err e) C Q refuses later full = refuses e.1 later full
+
+-- what is kept by other names
+pub opens_so : {D : Type 0} (moment : D → ℕ) (since : D → ℕ → List ℕ → Type 0) (schema other : Schema) (kept now : Durable) (old new : Pair D) → other ≡ schema → now ≡ kept → Always moment since (SaysOpened other now) old new → Always moment since (SaysOpened schema kept) old new
+opens_so moment since schema other kept now old new same_schema same_kept goes = subst (λ k. Always moment since (SaysOpened schema k) old new) same_kept (subst (λ s. Always moment since (SaysOpened s now) old new) same_schema goes)
