@@ -1,5 +1,5 @@
 -- What the opening of a journal comes to. The numbers are this project's own.
-use Rattle.std.specs.Prelude.{◌≡◌, ◌⊎◌, ◌≤◌, ◌<◌, ◌+◌, ℕ, Bool, List, [], length, map, nat_lt, if◌then◌else◌, ⊤}
+use Rattle.std.specs.Prelude.{◌≡◌, ◌≤◌, ◌<◌, ◌+◌, ℕ, List, [], length, map, nat_lt, if◌then◌else◌, ⊤}
 use Rattle.wfs_ends.specs.Ends.{last_count}
 use Rattle.feature_journal.specs.Kept.{limit_of}
 use Rattle.feature_values.specs.declared.schema.Schema.{Schema}

@@ -15,3 +15,6 @@ pub use opening::{Opened, open_journal};
 pub use recording::{Recorded, record_change};
 pub use shortening::shorten;
 pub use standing::stands;
+
+#[cfg(test)]
+mod tests;

@@ -1,4 +1,4 @@
-use Rattle.std.proofs.Common.{◌≡◌, ◌⊎◌, List, ℕ, length, sym, subst}
+use Rattle.std.proofs.Common.{length, sym, subst}
 use Rattle.feature_journal.specs.Kept.{disks_of, limit_of, length_of, generation_in}
 use Rattle.feature_journal.specs.Nothing.{Nothing}
 use Rattle.feature_schema.specs.Rules.{KeepsRules}
@@ -9,7 +9,7 @@ use Rattle.recovery.proofs.Phases.{ok_map, err_map}
 use Rattle.wfs_model.specs.State.{nothing}
 use Rattle.durable_journal.specs.Standing.{SaysOpened}
 use Rattle.durable_journal.specs.Kept.{Holds}
-use Rattle.durable_journal.specs.Opened.{AreBodiesOf, CannotOpen, IsRefusal}
+use Rattle.durable_journal.specs.Opened.{AreBodiesOf, CannotOpen}
 use Rattle.durable_journal.proofs.Openings.{told_bodies, not_opened, said_kept, nothing_kept, more_synced, synced_on, is_opened, by_fault, opens_so}
 use Rattle.durable_journal.proofs.opening.open_journal.Goals as goal
 
@@ -52,32 +52,32 @@ pub returns-in-Ok-clause-goes : goal.returns-in-Ok-clause-goes
 returns-in-Ok-clause-goes g c =
     let from = c.in-Ok.recovered in
     ok_map c.begin_opening.result _ _ (λ o goes a b lists kept is_a is_b s all.
-        synced_on g.D.Disk.shown g.D.Disk.moment g.D.Disk.since g.D.Disk.images (WithTail lists s) (SaysOpened c.args.schema.now kept) c.args.disks (disks_of from.journal) (disks_of o.journal) (c.in-Ok.ensures.goes a b lists is_a is_b s)
-        (opens_so g.D.Disk.moment g.D.Disk.since c.args.schema.now from.features.schema kept from.features.kept (disks_of from.journal) (disks_of o.journal) c.in-Ok.ensures.schema
-        (said_kept from.journal c.args.schema.now c.args.limit a b lists kept from.features.kept from.bodies s all (c.in-Ok.ensures.told a b is_a is_b) c.in-Ok.ensures.come) goes)) c.begin_opening.ensures.goes
+    synced_on g.D.Disk.shown g.D.Disk.moment g.D.Disk.since g.D.Disk.images (WithTail lists s) (SaysOpened c.args.schema.now kept) c.args.disks (disks_of from.journal) (disks_of o.journal) (c.in-Ok.ensures.goes a b lists is_a is_b s)
+    (opens_so g.D.Disk.moment g.D.Disk.since c.args.schema.now from.features.schema kept from.features.kept (disks_of from.journal) (disks_of o.journal) c.in-Ok.ensures.schema
+    (said_kept from.journal c.args.schema.now c.args.limit a b lists kept from.features.kept from.bodies s all (c.in-Ok.ensures.told a b is_a is_b) c.in-Ok.ensures.come) goes)) c.begin_opening.ensures.goes
 
 pub returns-in-Ok-clause-goes_err : goal.returns-in-Ok-clause-goes_err
 returns-in-Ok-clause-goes_err g c =
     let from = c.in-Ok.recovered in
     err_map c.begin_opening.result _ _ (λ e goes a b lists kept is_a is_b s all.
-        synced_on g.D.Disk.shown g.D.Disk.moment g.D.Disk.since g.D.Disk.images (WithTail lists s) (SaysOpened c.args.schema.now kept) c.args.disks (disks_of from.journal) e.0 (c.in-Ok.ensures.goes a b lists is_a is_b s)
-        (opens_so g.D.Disk.moment g.D.Disk.since c.args.schema.now from.features.schema kept from.features.kept (disks_of from.journal) e.0 c.in-Ok.ensures.schema
-        (said_kept from.journal c.args.schema.now c.args.limit a b lists kept from.features.kept from.bodies s all (c.in-Ok.ensures.told a b is_a is_b) c.in-Ok.ensures.come) goes)) c.begin_opening.ensures.goes_err
+    synced_on g.D.Disk.shown g.D.Disk.moment g.D.Disk.since g.D.Disk.images (WithTail lists s) (SaysOpened c.args.schema.now kept) c.args.disks (disks_of from.journal) e.0 (c.in-Ok.ensures.goes a b lists is_a is_b s)
+    (opens_so g.D.Disk.moment g.D.Disk.since c.args.schema.now from.features.schema kept from.features.kept (disks_of from.journal) e.0 c.in-Ok.ensures.schema
+    (said_kept from.journal c.args.schema.now c.args.limit a b lists kept from.features.kept from.bodies s all (c.in-Ok.ensures.told a b is_a is_b) c.in-Ok.ensures.come) goes)) c.begin_opening.ensures.goes_err
 
 pub returns-in-Ok-clause-first : goal.returns-in-Ok-clause-first
 returns-in-Ok-clause-first g c =
     let from = c.in-Ok.recovered in
     let none = nothing (length c.args.schema.now.types) in
     ok_map c.begin_opening.result _ _ (λ o goes a b is_a is_b un_a un_b.
-        synced_on g.D.Disk.shown g.D.Disk.moment g.D.Disk.since g.D.Disk.images Nothing (SaysOpened c.args.schema.now none) c.args.disks (disks_of from.journal) (disks_of o.journal) (c.in-Ok.ensures.nothing a b is_a is_b un_a un_b)
-        (opens_so g.D.Disk.moment g.D.Disk.since c.args.schema.now from.features.schema none from.features.kept (disks_of from.journal) (disks_of o.journal) c.in-Ok.ensures.schema
-        (nothing_kept from.journal c.args.schema.now c.args.limit a b from.features.kept from.bodies un_a un_b (c.in-Ok.ensures.told a b is_a is_b) c.in-Ok.ensures.come) goes)) c.begin_opening.ensures.goes
+    synced_on g.D.Disk.shown g.D.Disk.moment g.D.Disk.since g.D.Disk.images Nothing (SaysOpened c.args.schema.now none) c.args.disks (disks_of from.journal) (disks_of o.journal) (c.in-Ok.ensures.nothing a b is_a is_b un_a un_b)
+    (opens_so g.D.Disk.moment g.D.Disk.since c.args.schema.now from.features.schema none from.features.kept (disks_of from.journal) (disks_of o.journal) c.in-Ok.ensures.schema
+    (nothing_kept from.journal c.args.schema.now c.args.limit a b from.features.kept from.bodies un_a un_b (c.in-Ok.ensures.told a b is_a is_b) c.in-Ok.ensures.come) goes)) c.begin_opening.ensures.goes
 
 pub returns-in-Ok-clause-first_err : goal.returns-in-Ok-clause-first_err
 returns-in-Ok-clause-first_err g c =
     let from = c.in-Ok.recovered in
     let none = nothing (length c.args.schema.now.types) in
     err_map c.begin_opening.result _ _ (λ e goes a b is_a is_b un_a un_b.
-        synced_on g.D.Disk.shown g.D.Disk.moment g.D.Disk.since g.D.Disk.images Nothing (SaysOpened c.args.schema.now none) c.args.disks (disks_of from.journal) e.0 (c.in-Ok.ensures.nothing a b is_a is_b un_a un_b)
-        (opens_so g.D.Disk.moment g.D.Disk.since c.args.schema.now from.features.schema none from.features.kept (disks_of from.journal) e.0 c.in-Ok.ensures.schema
-        (nothing_kept from.journal c.args.schema.now c.args.limit a b from.features.kept from.bodies un_a un_b (c.in-Ok.ensures.told a b is_a is_b) c.in-Ok.ensures.come) goes)) c.begin_opening.ensures.goes_err
+    synced_on g.D.Disk.shown g.D.Disk.moment g.D.Disk.since g.D.Disk.images Nothing (SaysOpened c.args.schema.now none) c.args.disks (disks_of from.journal) e.0 (c.in-Ok.ensures.nothing a b is_a is_b un_a un_b)
+    (opens_so g.D.Disk.moment g.D.Disk.since c.args.schema.now from.features.schema none from.features.kept (disks_of from.journal) e.0 c.in-Ok.ensures.schema
+    (nothing_kept from.journal c.args.schema.now c.args.limit a b from.features.kept from.bodies un_a un_b (c.in-Ok.ensures.told a b is_a is_b) c.in-Ok.ensures.come) goes)) c.begin_opening.ensures.goes_err

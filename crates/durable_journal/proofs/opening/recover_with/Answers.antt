@@ -1,4 +1,4 @@
-use Rattle.std.proofs.Common.{◌≡◌, List, ℕ, All, Ok, sym, ap, ◌∙◌, subst}
+use Rattle.std.proofs.Common.{◌≡◌, All, Ok, sym, ap, ◌∙◌, subst}
 use Rattle.journal_format.specs.Numbers.{AreBytes}
 use Rattle.recovery.specs.Answer.{AnsweredErr}
 use Rattle.recovery.specs.Outcome.{outcome_of}

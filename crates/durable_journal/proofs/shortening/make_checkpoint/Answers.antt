@@ -1,4 +1,4 @@
-use Rattle.std.proofs.Common.{◌≡◌, ◌⊎◌, ℕ, List, [], ◌∷◌, map, subst, ap}
+use Rattle.std.proofs.Common.{◌⊎◌, [], ◌∷◌, map, subst, ap}
 use Rattle.std.specs.List.{AllByRecursion}
 use Rattle.std.proofs.lemmas.Result.{on_ok_weaker, on_err_weaker}
 use Rattle.disk_core.specs.Sides.{Always}
@@ -6,7 +6,6 @@ use Rattle.feature_journal.specs.Whole.{Says, Fits}
 use Rattle.feature_journal.specs.Kept.{Rests, BeganSide, seen, disks_of}
 use Rattle.journal_replay.specs.Left.{Checkpointing}
 use Rattle.journal_replay.specs.Written.{body_in}
-use Rattle.durable_journal.specs.Opened.{checkpoint_bodies}
 use Rattle.durable_journal.proofs.Shorter.{made, not_made, making_goes, still_goes, at_rest_keeps}
 use Rattle.durable_journal.proofs.shortening.make_checkpoint.Goals as goal
 

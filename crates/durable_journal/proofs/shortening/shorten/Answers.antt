@@ -1,4 +1,4 @@
-use Rattle.std.proofs.Common.{◌≡◌, inl, inr, refl}
+use Rattle.std.proofs.Common.{inl, inr, refl}
 use Rattle.std.proofs.lemmas.Result.{on_err_weaker}
 use Rattle.disk_core.specs.Sides.Always.{once}
 use Rattle.feature_journal.specs.Kept.{disks_of}
