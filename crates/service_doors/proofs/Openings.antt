@@ -1,5 +1,5 @@
 -- What doors give at Ok.
-use Rattle.std.proofs.Common.{◌≡◌, ℕ, List, [], ◌∷◌, ◌++◌, length, drop, map, Option, Some, None, refl, sym, ap, subst, ◌∙◌, rules}
+use Rattle.std.proofs.Common.{◌≡◌, ℕ, List, [], ◌∷◌, ◌++◌, length, drop, map, Option, Some, None, refl, sym, ap, subst, ◌∙◌}
 use Rattle.std.specs.List.{All}
 use Rattle.std.proofs.lemmas.List.{length-map, drop-map}
 use Rattle.std.proofs.lemmas.List.Elements.{All-map, All-weaker}
@@ -7,7 +7,7 @@ use Rattle.wfs_ends.specs.Ends.{Shown}
 use Rattle.service_doors.specs.declared.doors.Asked.{Asked}
 use Rattle.service_doors.specs.Accepting.{Accepting, IsNew}
 use Rattle.service_doors.specs.Listening.{Listening, Opens, first_of}
-use Rattle.service_doors.specs.Memory.{Turns, Row, no_links, IsNewRow, new_row, shown_links, accepting_of, Entry, passed, refused, listening_of, after_failed_listen}
+use Rattle.service_doors.specs.Memory.{Turns, Row, no_links, IsNewRow, shown_links, accepting_of, passed, refused, listening_of, after_failed_listen}
 use Rattle.service_doors.proofs.Firsts.{length_first, map_first, all_first}
 
 -- doors that do not tell

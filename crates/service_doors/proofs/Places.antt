@@ -1,10 +1,10 @@
 -- A list with one more in its middle.
-use Rattle.std.proofs.Common.{◌≡◌, ℕ, ◌+◌, ◌-◌, ◌≤◌, List, [], ◌∷◌, ◌++◌, length, take, drop, refl, sym, ap, subst, ◌∙◌, arith, add-one}
+use Rattle.std.proofs.Common.{◌≡◌, ℕ, ◌+◌, ◌-◌, ◌≤◌, List, [], ◌∷◌, ◌++◌, length, take, drop, subst}
 use Rattle.std.proofs.Math.Seq.{take-append-add, drop-append-add}
 use Rattle.std.proofs.lemmas.List.{length-take-le}
 use Rattle.std.specs.List.{insert}
 use Rattle.wfs_ends.specs.Ends.{Connection}
-use Rattle.service_doors.specs.Memory.{Turns, Row, row_of, after_finish}
+use Rattle.service_doors.specs.Memory.{Turns, row_of, after_finish}
 
 pub front_of_insert : {X : Type 0} (xs : List X) (i : ℕ) (y : X) → i ≤ length xs → take (i + 1) (insert xs i y) ≡ take i xs ++ y ∷ []
 front_of_insert xs i y le =

@@ -1,5 +1,8 @@
 //! Acceptors and doors in memory, and the doors over TCP on the machine itself.
 
+ghost use Rattle.std.specs.Prelude.{IfOk};
+ghost use Rattle.service_doors.specs.Memory.{IsNewRow};
+
 use crate::tcp::set_up;
 use crate::{Acceptor, DoorFault, Doors, MemAcceptor, MemDoors, TcpDoors};
 use std::alloc::Global;
@@ -37,7 +40,9 @@ fn link_of(alloc: Global, byte: u8) -> Mem<MemLink> {
 }
 
 // Two links, and a second call that fails.
-fn two_links(alloc: Global) -> Mem<MemAcceptor> {
+fn two_links(alloc: Global) -> Mem<MemAcceptor>
+    ensures { IfOk result IsNewRow }
+{
     let links = vec![in alloc; link_of(alloc, b'a')?, link_of(alloc, b'b')?]?;
     Ok(MemAcceptor::new(links, vec![in alloc; 1u64]?))
 }

@@ -1,6 +1,6 @@
-use Rattle.std.proofs.Common.{List, [], ◌∷◌, ◌++◌, map, Contains, refl, ap, subst, ◌∙◌}
+use Rattle.std.proofs.Common.{map, Contains, refl, ap, subst, ◌∙◌}
 use Rattle.service_doors.specs.declared.doors.Asked.{Asked}
-use Rattle.service_doors.specs.Listening.{first_of, Opens}
+use Rattle.service_doors.specs.Listening.{Opens}
 use Rattle.service_doors.specs.Memory.{Entry, accepting_of, listening_of, after_failed_listen}
 use Rattle.service_doors.proofs.Openings.{opened, refused_entry}
 use Rattle.service_doors.proofs.memory_doors.MemDoorsDoors.listen.Goals as goal
