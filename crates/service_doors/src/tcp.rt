@@ -1,0 +1,175 @@
+//! Doors over TCP: a listener, of which each worker has a handle of its own.
+
+ghost use Rattle.std.specs.Prelude.{◌≡◌, ◌+◌, ◌≤◌, ◌<◌, [], length, None, OnOk, vec_capacity, vec_len};
+ghost use Rattle.std.specs.List.{All};
+ghost use Rattle.service_doors.specs.Accepting.{untold, IsNew};
+
+use crate::{Acceptor, DoorFault, Doors, StreamEnd};
+use std::alloc::Global;
+use std::io;
+use std::io::{ErrorKind, Read, Write};
+use std::net::{Net, OpenListener, OpenStream, SocketAddr, TcpListener};
+use std::time::Duration;
+use wfs_ends::Failed;
+
+/// How many seconds a session waits for the next bytes of its peer. Then its read fails, and it ends.
+const READ_SECONDS: u64 = 300;
+
+/// How many seconds a write waits for its peer to take some bytes. Then it fails, and the session ends.
+const WRITE_SECONDS: u64 = 60;
+
+/// How many connections in a row may be lost before they are handed out.
+const MOST_LOST: u32 = 1_000_000;
+
+/// Hands out the connections that a listener accepts. Other acceptors may share the listener. It does not tell its links.
+#[derive(Drop)]
+pub struct TcpAcceptor<R: Net> {
+    listener: R::Listener,
+    out: u64,
+    finished: u64,
+    faults: u64,
+}
+
+// Whether this error of `accept` is of a connection that its peer, or the network, gave up before it was accepted.
+fn is_of_a_connection(kind: ErrorKind) -> bool {
+    matches!(
+        kind,
+        ErrorKind::ConnectionAborted
+            | ErrorKind::ConnectionReset
+            | ErrorKind::HostUnreachable
+            | ErrorKind::NetworkUnreachable
+            | ErrorKind::NetworkDown
+            | ErrorKind::TimedOut
+            | ErrorKind::Interrupted
+    )
+}
+
+// The next connection that is not lost by then.
+fn next_connection<L: OpenListener>(listener: &L) -> io::Result<L::Stream> {
+    for _ in 0..MOST_LOST {
+        match listener.accept() {
+            Ok((stream, _)) => return Ok(stream),
+            Err(error) if is_of_a_connection(error.kind()) => {}
+            Err(error) => return Err(error),
+        }
+    }
+    Err(io::Error::from(ErrorKind::ConnectionAborted))
+}
+
+// Sends what is written at once, and bounds how long a read and a write wait.
+pub(crate) fn set_up<S: OpenStream>(stream: &S) -> io::Result<()> {
+    stream.set_nodelay(true)?;
+    stream.set_read_timeout(Some(Duration::from_secs(READ_SECONDS)))?;
+    stream.set_write_timeout(Some(Duration::from_secs(WRITE_SECONDS)))
+}
+
+// The link over a connection. One that cannot be set up is lost, so its session ends by itself, and no other.
+fn link_over<S: Read + Write + OpenStream + Drop>(stream: S) -> StreamEnd<S> {
+    match set_up(&stream) {
+        Ok(()) => StreamEnd::of(stream),
+        Err(_) => StreamEnd::lost(),
+    }
+}
+
+impl<R: Net> TcpAcceptor<R> {
+    fn of(listener: R::Listener) -> TcpAcceptor<R>
+        ensures { IsNew (untold result.out result.finished result.faults) }
+    {
+        TcpAcceptor {
+            listener,
+            out: 0,
+            finished: 0,
+            faults: 0,
+        }
+    }
+
+    /// The address at which it listens. Its port is the one that the system chose where port 0 was asked for.
+    pub fn local_addr(&self) -> io::Result<SocketAddr> {
+        self.listener.local_addr()
+    }
+}
+
+impl<R: Net> Acceptor for TcpAcceptor<R> {
+    type Link = StreamEnd<R::Stream>;
+
+    ghost accepting = { λ a. record { left = None; done = None; out = a.out; finished = a.finished; faults = a.faults } };
+
+    fn accept(&mut self) -> Result<Option<StreamEnd<R::Stream>>, Failed> {
+        match next_connection(&self.listener) {
+            Ok(stream) => {
+                self.out = self.out.saturating_add(1);
+                Ok(Some(link_over(stream)))
+            }
+            Err(_) => {
+                self.faults = self.faults.saturating_add(1);
+                Err(Failed)
+            }
+        }
+    }
+
+    // The link is dropped, which closes its connection.
+    fn finish(&mut self, _link: StreamEnd<R::Stream>) {
+        self.out -= 1;
+        self.finished = self.finished.saturating_add(1);
+    }
+}
+
+/// Listens at an address of TCP. A call that fails raises its count by one, up to the last u64.
+#[derive(Drop)]
+pub struct TcpDoors<'a, R> {
+    runtime: &'a R,
+    faults: u64,
+}
+
+// Listens, and puts an acceptor for each worker into a list that has the memory for them.
+fn open<R: Net>(
+    runtime: &R,
+    address: &str,
+    workers: u32,
+    acceptors: &mut Vec<TcpAcceptor<R>>,
+) -> io::Result<()>
+    requires none { acceptors.old.items ≡ [] }
+    requires room { workers ≤ vec_capacity acceptors.old }
+    ensures number { OnOk result (length acceptors.new.items ≡ workers) }
+    ensures fresh { OnOk result (All (λ a. IsNew (untold a.out a.finished a.faults)) acceptors.new.items) }
+{
+    let listener = TcpListener::bind(runtime, address)?;
+    for _worker in 0..workers {
+        match acceptors.push(TcpAcceptor::of(listener.try_clone()?)) {
+            Ok(()) => {}
+            Err(_) => unreachable!(),
+        }
+    }
+    Ok(())
+}
+
+impl<'a, R: Net> TcpDoors<'a, R> {
+    /// The doors of this runtime, which listen nowhere yet.
+    pub fn of(runtime: &'a R) -> TcpDoors<'a, R>
+        ensures { ⟦<TcpDoors<'a, R> as Doors>⟧.listening result ≡ record { asked = None; ready = None; faults = 0 } }
+    {
+        TcpDoors { runtime, faults: 0 }
+    }
+}
+
+impl<'a, R: Net> Doors for TcpDoors<'a, R> {
+    type Acceptor = TcpAcceptor<R>;
+
+    ghost listening = { λ d. record { asked = None; ready = None; faults = d.faults } };
+
+    fn listen(
+        &mut self,
+        alloc: Global,
+        address: &str,
+        workers: u32,
+    ) -> Result<Vec<TcpAcceptor<R>>, DoorFault> {
+        let mut acceptors = Vec::with_capacity(alloc, workers as usize)?;
+        match open(self.runtime, address, workers, &mut acceptors) {
+            Ok(()) => Ok(acceptors),
+            Err(_) => {
+                self.faults = self.faults.saturating_add(1);
+                Err(DoorFault::Failed)
+            }
+        }
+    }
+}
