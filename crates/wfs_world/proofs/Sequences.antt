@@ -1,5 +1,5 @@
 -- One event more behind others.
-use Rattle.std.proofs.Common.{◌≡◌, ℕ, ◌+◌, ◌<◌, List, [], ◌∷◌, ◌++◌, length, take, All, Some, Err, refl, sym, ap, ◌∙◌, subst, append_assoc, length-append, arith}
+use Rattle.std.proofs.Common.{◌≡◌, ℕ, ◌+◌, ◌<◌, List, [], ◌∷◌, ◌++◌, length, take, All, Some, Result, Ok, Err, refl, sym, ap, ◌∙◌, subst, append_assoc, length-append, arith}
 use Rattle.std.specs.Prelude.{slice_get}
 use Rattle.std.proofs.Math.Seq.{take-append_seam, get_or-append_seam}
 use Rattle.std.proofs.lemmas.Option.{get_or_from_slice_get}
@@ -11,7 +11,7 @@ use Rattle.wfs_world.specs.declared.event.Seen.{Seen}
 use Rattle.wfs_world.specs.declared.event.WorldFault.{WorldFault}
 use Rattle.wfs_world.specs.declared.event.WorldFault.TheVariants.{NotNow}
 use Rattle.wfs_world.specs.Events.{MayHappen, happened, seen, IsEventOf, MayAllHappen, all_happened, all_seen}
-use Rattle.wfs_world.specs.Happening.{AllHappen, Stops}
+use Rattle.wfs_world.specs.Happening.{Happens, AllHappen, Stops}
 use Rattle.wfs_world.specs.Scene.{Scene}
 use Rattle.wfs_world.proofs.Leading.{same_schema}
 
@@ -73,3 +73,9 @@ stops_first w next events fault same some not_now = record {
   front = record { may = tt; left = same };
   not_now = λ said other at may. let fails : fault ≡ NotNow = cc in not_now fails;
 }
+
+-- ---- what no call changes
+
+pub happens_schema : (before now : Scene) (event : Event) (result : Result Seen WorldFault) → Happens before event result now → now.schema ≡ before.schema
+happens_schema before now event (Ok s) h = ap (λ (v : Scene). v.schema) h.left ∙ same_schema before event
+happens_schema before now event (Err fault) h = ap (λ (v : Scene). v.schema) h.err

@@ -8,6 +8,7 @@ ghost use Rattle.wfs_world.specs.Events.{IsEventOf};
 use super::*;
 use feature_values::Schema;
 use std::alloc::Global;
+use std::mem::drop;
 use wfs_ends::{List, Mem};
 use wfs_model::{Reply, Request};
 
@@ -185,6 +186,17 @@ fn is_as(seen: &Result<Seen, WorldFault>, want: &Want) -> bool {
     }
 }
 
+// Whether what is seen of an event is what is wanted.
+fn happens_as(world: &mut World, event: Event, want: &Want) -> bool
+    requires { IsEventOf world.old.schema event }
+    ensures { world.new.schema ≡ world.old.schema }
+{
+    let seen = world.step(event);
+    let is = is_as(&seen, want);
+    drop(seen);
+    is
+}
+
 // The first event of which something else is seen.
 fn first_of(alloc: Global, world: &mut World, schema: &Schema, steps: &[Step]) -> Mem<Option<usize>>
     requires marks { AreMarks schema.now }
@@ -192,8 +204,8 @@ fn first_of(alloc: Global, world: &mut World, schema: &Schema, steps: &[Step]) -
 {
     for i in 0..steps.len() {
         let (does, want) = &steps[i];
-        let seen = world.step(event(alloc, schema, *does)?);
-        if !is_as(&seen, want) {
+        let event = event(alloc, schema, *does)?;
+        if !happens_as(world, event, want) {
             return Ok(Some(i));
         }
     }
@@ -204,7 +216,9 @@ fn first_of(alloc: Global, world: &mut World, schema: &Schema, steps: &[Step]) -
 fn first_wrong(alloc: Global, seats: u32, steps: &[Step]) -> Mem<Option<usize>> {
     let schema = schema(alloc)?;
     let mut world = World::new(alloc, schema.copy(alloc)?, seats)?;
-    first_of(alloc, &mut world, &schema, steps)
+    let wrong = first_of(alloc, &mut world, &schema, steps);
+    drop(world);
+    wrong
 }
 
 #[test]
@@ -240,14 +254,28 @@ fn are_seen(seen: &[Seen]) -> bool {
     true
 }
 
+fn runs(world: &mut World, events: List<Event>) -> bool
+    requires { All (IsEventOf world.old.schema) events }
+{
+    match world.run(events) {
+        Ok(seen) => are_seen(seen.items()),
+        Err(_) => false,
+    }
+}
+
+fn are_found(alloc: Global, schema: Schema, events: List<Event>) -> Mem<bool>
+    requires { All (IsEventOf schema) events }
+{
+    let mut world = World::new(alloc, schema, 2)?;
+    let are = runs(&mut world, events);
+    drop(world);
+    Ok(are)
+}
+
 fn is_found(alloc: Global) -> Mem<bool> {
     let schema = schema(alloc)?;
     let events = events(alloc, &schema)?;
-    let mut world = World::new(alloc, schema, 2)?;
-    match world.run(events) {
-        Ok(seen) => Ok(are_seen(seen.items())),
-        Err(_) => Ok(false),
-    }
+    are_found(alloc, schema, events)
 }
 
 #[test]
