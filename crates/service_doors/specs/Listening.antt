@@ -16,6 +16,10 @@ pub record Listening : Type 0 where
   -- how many calls failed, up to the last value of a u64
   pub faults : ℕ
 
+-- what a call asks for
+abbrev pub asking : List ℕ → ℕ → Asked
+asking address workers = record { address = address; workers = workers }
+
 -- the first n of a list, and where it has too few, this one in the place of each that it lacks
 abbrev pub first_of : {X : Type 0} → X → ℕ → List X → List X
 first_of none n xs = take n (xs ++ replicate n none)

@@ -1,7 +1,7 @@
 //! What listens at an address, and gives an acceptor to each worker.
 
 ghost use Rattle.std.specs.Prelude.{◌≡◌, map, IfOk, IfErr};
-ghost use Rattle.service_doors.specs.Listening.{Listening, Opens, Refuses};
+ghost use Rattle.service_doors.specs.Listening.{Listening, asking, Opens, Refuses};
 ghost use Rattle.service_doors.specs.declared.doors.DoorFault.TheVariants.{OutOfMemory};
 
 use crate::Acceptor;
@@ -46,7 +46,7 @@ pub trait Doors {
         address: &str,
         workers: u32,
     ) -> Result<Vec<Self::Acceptor>, DoorFault>
-        ensures opens { IfOk result (λ v. Opens (listening self.old) (record { address = address.now; workers = workers }) (map Self.Acceptor.accepting v.items) (listening self.new)) }
+        ensures opens { IfOk result (λ v. Opens (listening self.old) (asking address.now workers) (map Self.Acceptor.accepting v.items) (listening self.new)) }
         ensures err { IfErr result (λ fault. Refuses fault (listening self.old) (listening self.new)) };
 }
 

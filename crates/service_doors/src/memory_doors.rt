@@ -2,7 +2,7 @@
 
 ghost use Rattle.std.specs.Prelude.{◌≡◌, ◌-◌, ◌≤◌, [], length, get_or, drop, map, IfOk, IfErr, OnOk, Contains, vec_capacity};
 ghost use Rattle.std.specs.List.{All};
-ghost use Rattle.service_doors.specs.Listening.{first_of, Opens};
+ghost use Rattle.service_doors.specs.Listening.{asking, first_of, Opens};
 ghost use Rattle.service_doors.specs.Memory.{new_calls, no_links, IsNewRow, after_listen, accepting_of, listening_of, RefusesEntry};
 
 use crate::calls::Calls;
@@ -90,8 +90,8 @@ impl Doors for MemDoors {
         workers: u32,
     ) -> Result<Vec<MemAcceptor>, DoorFault>
         ensures given { IfOk result (λ v. v.items ≡ first_of no_links workers self.old.waiting) }
-        ensures opens { IfOk result (λ v. Opens (listening_of self.old) (record { address = address.now; workers = workers }) (map accepting_of v.items) (listening_of self.new)) }
-        ensures moved { OnOk result (self.new ≡ after_listen self.old (record { address = address.now; workers = workers })) }
+        ensures opens { IfOk result (λ v. Opens (listening_of self.old) (asking address.now workers) (map accepting_of v.items) (listening_of self.new)) }
+        ensures moved { OnOk result (self.new ≡ after_listen self.old (asking address.now workers)) }
         ensures calm { OnOk result (Contains self.old.calls.failing self.old.calls.made → ⊥) }
         ensures err { IfErr result (λ fault. RefusesEntry fault self.old self.new) }
     {
