@@ -1,0 +1,14 @@
+//! The store: a step is planned, journaled and applied, or nothing happened.
+#![tactic(auto)]
+
+mod course;
+mod entering;
+mod fault;
+mod judging;
+mod readying;
+mod spelling;
+mod store;
+mod writing;
+
+pub use fault::StepFault;
+pub use store::{Store, stands};
