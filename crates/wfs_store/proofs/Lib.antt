@@ -1,2 +1,6 @@
+pub mod Courses
+pub mod Ends
 pub mod Histories
 pub mod Limits
+pub mod Recordable
+pub mod Short

@@ -3,7 +3,7 @@ use Rattle.std.specs.Prelude.{◌≡◌, ℕ, ◌+◌, ◌≤◌, List, length, 
 use Rattle.durable_journal.specs.Kept.{Keeps}
 use Rattle.durable_journal.specs.Standing.{ComeTo}
 use Rattle.feature_journal.specs.declared.journal.Journal.{Journal}
-use Rattle.feature_journal.specs.Kept.{length_of, limit_of}
+use Rattle.feature_journal.specs.Kept.{disks_of, length_of, limit_of}
 use Rattle.feature_schema.specs.Rules.{KeepsRules}
 use Rattle.feature_schema.specs.Signature.{signature_text}
 use Rattle.feature_values.specs.declared.schema.Schema.{Schema}
@@ -14,6 +14,7 @@ use Rattle.wfs_model.specs.declared.entry.Entry.{Entry}
 use Rattle.wfs_model.specs.Played.{accepted}
 use Rattle.wfs_model.specs.State.{Durable, State, durable, first_state, opened}
 use Rattle.wfs_store.specs.declared.course.Course.{Course}
+use Rattle.wfs_store.specs.Held.{Held}
 use Rattle.wfs_store.specs.Judged.{added_by}
 use Rattle.wfs_store.specs.Past.{IsPast}
 
@@ -48,9 +49,22 @@ pub record IsStore {D : Type 0} (images : D → List ℕ → Type 0) (course : C
   -- the bodies that were recovered come to something, from which the opening begins
   pub kept : Durable
   pub come : ComeTo course.state.schema kept bodies
-  pub course : IsCourse (opening_on course.state.schema bodies) course
+  pub memory : IsCourse (opening_on course.state.schema bodies) course
   -- the journal stands for what the history leaves, or for that with the change that is begun
   pub keeps : Keeps images course.state.schema (durable course.state.state) begun journal
   pub length : length_of journal ≡ length_after course.state.schema side (opening_on course.state.schema bodies) course.history.items
   pub limit : limit_of journal ≡ course.limits.side
   pub within : length_of journal ≤ course.limits.side
+
+-- what contracts see of it
+abbrev pub held_of : {D : Type 0} → Course → Journal D → (bodies : List (List ℕ)) → (side : ℕ) → (begun : Option Change) → (tally : List ℕ) → Held D
+held_of course journal bodies side begun tally = record {
+  schema = course.state.schema;
+  limits = course.limits;
+  opening = opening_on course.state.schema bodies;
+  entries = course.history.items;
+  side = side;
+  begun = begun;
+  tally = tally;
+  disks = disks_of journal;
+}

@@ -35,6 +35,12 @@ pub record IsWritable (schema : Schema) (kept : Durable) (side limit : ℕ) (bod
   pub may : MayAppend schema kept change body
   pub fits : side + 5 + length body ≤ limit
 
+-- What is taken up of an entry: its moment, its plan, and a copy of the change that it makes.
+pub record IsTaken (entry : Entry) (ready : Ready) (copy : Option Change) (course : Course) : Type 0 where
+  pub moment : ready.moment ≡ moment_in course.state.state entry.moment
+  pub plan : IsPlan course.state.schema course.state.state ready.moment entry.request ready.plan
+  pub copy_is : copy ≡ ready.plan.change
+
 -- a plan of an entry is prepared for the moment at which the entry is taken up
 pub record IsPlanned (entry : Entry) (moment : ℕ) (plan : Plan) (course : Course) : Type 0 where
   pub moment_is : moment ≡ moment_in course.state.state entry.moment

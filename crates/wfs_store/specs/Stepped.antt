@@ -2,6 +2,7 @@
 use Rattle.std.specs.Prelude.{◌≡◌, ◌⊎◌, ℕ, ◌+◌, List, [], ◌∷◌, ◌++◌, get_or, slice_set, min, Option, Some, None, Result, Ok, Err, ⊤}
 use Rattle.disk_core.specs.Sides.{Always}
 use Rattle.durable_journal.specs.Standing.{SaysEither}
+use Rattle.feature_journal.specs.Faults.{NoneFell, OneRose}
 use Rattle.wfs_ends.specs.Ends.{last_count}
 use Rattle.wfs_model.specs.declared.change.Change.{Change}
 use Rattle.wfs_model.specs.declared.entry.Entry.{Entry}
@@ -68,3 +69,17 @@ abbrev pub Unwritten : {D : Type 0} → Held D → Entry → Result Reply StepFa
 Unwritten old entry (Ok reply) new = change_by old entry ≡ None → new.disks ≡ old.disks
 Unwritten old entry (Err StoreFault) new = change_by old entry ≡ None → ⊥
 Unwritten old entry (Err fault) new = new.disks ≡ old.disks
+
+-- A step of a store.
+pub record IsStepOf {D : Type 0} (moment : D → ℕ) (since : D → ℕ → List ℕ → Type 0) (faults : D → ℕ) (old : Held D) (entry : Entry) (result : Result Reply StepFault) (new : Held D) : Type 0 where
+  pub opening : SameOpening old new
+  pub entered : Entered old entry result new
+  pub limited : Limited old entry result
+  pub begun : Begun old entry result new
+  pub tallied : Tallied old entry result new
+  pub unwritten : Unwritten old entry result new
+  -- at each moment a crash leaves what was kept, with what was begun or without, or with the change of this entry
+  pub goes : Always moment since (SaysEither old.schema (kept_of old) old.begun (change_by old entry)) old.disks new.disks
+  pub count : NoneFell faults old.disks new.disks
+  -- a store fault comes only where a disk's count of failures rose
+  pub cause : result ≡ Err StoreFault → OneRose faults old.disks new.disks

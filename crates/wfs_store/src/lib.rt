@@ -7,6 +7,7 @@ mod fault;
 mod judging;
 mod readying;
 mod spelling;
+mod stepping;
 mod store;
 mod writing;
 

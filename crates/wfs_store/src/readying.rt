@@ -11,7 +11,7 @@ ghost use Rattle.wfs_model.specs.OfSchema.{IsOfSchema, stored_in};
 ghost use Rattle.wfs_model.specs.State.{State, durable, last_moment, moment_in};
 ghost use Rattle.wfs_store.specs.Judged.{Judges, passed_by_count};
 ghost use Rattle.wfs_store.specs.Kept.{IsCourse, body_length, length_after};
-ghost use Rattle.wfs_store.specs.Ready.{IsPlanned, IsReady, IsSpelledFor, IsWritable, SamePast};
+ghost use Rattle.wfs_store.specs.Ready.{IsPlanned, IsReady, IsSpelledFor, IsTaken, IsWritable, SamePast};
 
 use crate::StepFault;
 use crate::course::{Course, Ready};
@@ -95,7 +95,7 @@ pub(crate) fn make_ready(
         → Judges (full_at course.old.state.schema (body_length course.old.state.schema) start opening course.old.limits course.old.history.items (timed course.old.state.state entry.now)) result }
     ensures ready { IfOk result (λ r. IsReady entry.now r.0 course.new) }
     ensures written { IfOk result (λ r. IfSome r.0.plan.change (IsWritable course.old.state.schema (durable course.old.state.state) side course.old.limits.side course.new.body.items)) }
-    ensures copy { IfOk result (λ r. r.1 ≡ r.0.plan.change) }
+    ensures taken { IfOk result (λ r. IsTaken entry.now r.0 r.1 course.old) }
     ensures same { SamePast course.old course.new }
 {
     let (moment, plan) = judged(course, side, entry)?;

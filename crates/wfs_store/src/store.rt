@@ -1,9 +1,9 @@
 //! The store: its steps, and what it tells.
 
-ghost use Rattle.std.specs.Prelude.{◌≡◌, ◌≤◌, ◌⊎◌, ℕ, All, IfOk, length, Err, Some, None, map_option};
-ghost use Rattle.disk_core.specs.Sides.{Always, EveryBoth};
-ghost use Rattle.durable_journal.specs.Standing.{SaysEither, SaysWith};
-ghost use Rattle.feature_journal.specs.Faults.{NoneFell, OneRose};
+ghost use Rattle.std.specs.Prelude.{◌≡◌, ◌≤◌, All, IfOk, length};
+ghost use Rattle.std.specs.Option.{option_map};
+ghost use Rattle.disk_core.specs.Sides.{EveryBoth};
+ghost use Rattle.durable_journal.specs.Standing.{SaysWith};
 ghost use Rattle.query_docs.specs.Reading.{IsKeptText};
 ghost use Rattle.wfs_model.specs.Changing.{IsChange};
 ghost use Rattle.wfs_model.specs.OfSchema.{IsOfSchema, stored_in};
@@ -12,13 +12,11 @@ ghost use Rattle.wfs_model.specs.State.{clamped};
 ghost use Rattle.wfs_store.specs.Held.{kept_of};
 ghost use Rattle.wfs_store.specs.Kept.{length_after};
 ghost use Rattle.wfs_store.specs.Past.{last_made};
-ghost use Rattle.wfs_store.specs.Stepped.{SameOpening, Entered, Limited, Begun, Tallied, Unwritten, change_by};
+ghost use Rattle.wfs_store.specs.Stepped.{IsStepOf};
 
 use crate::StepFault;
 use crate::course::Course;
-use crate::entering::enter;
-use crate::readying::make_ready;
-use crate::writing::write;
+use crate::stepping::take_step;
 use disk_core::{Disk, Pair};
 use feature_journal::Journal;
 use feature_versions::Features;
@@ -48,23 +46,16 @@ impl<D: Disk> Model for Store<D> {
     ghost use Rattle.feature_journal.specs.Kept.{disks_of};
     ghost use Rattle.fes_filter.specs.contracts.filter.Filter as filter_row;
     ghost use Rattle.wfs_store.specs.Held.{Held};
-    ghost use Rattle.wfs_store.specs.Kept.{IsStore, opening_on};
 
     ghost Value = { Held D };
+
+    ghost coded = { Prim.hlevel (codes, filter_row.the_row.coded, D.code) };
+
+    ghost use Rattle.wfs_store.specs.Kept.{IsStore, opening_on};
 
     ghost view = { λ s. record { schema = s.course.state.schema; limits = s.course.limits; opening = opening_on s.course.state.schema s.bodies; entries = s.course.history.items; side = s.side; begun = s.begun; tally = s.tally; disks = disks_of s.journal } };
 
     ghost invariant = { λ s. IsStore D.images s.course s.journal s.bodies s.side s.begun };
-}
-
-// One more store fault of a seat.
-fn raise(tally: &mut [u64; 17], seat: u32)
-    requires { seat ≤ 16 }
-    ensures { tally.new ≡ one_more tally.old seat }
-{
-    let at = seat as usize;
-    let count = tally[at];
-    tally[at] = count.saturating_add(1);
 }
 
 impl<D: Disk> Store<D> {
@@ -80,26 +71,15 @@ impl<D: Disk> Store<D> {
         requires fitting { IsOfSchema self.old.schema entry.request }
         requires texts { All (IsKeptText self.old.schema) (stored_in entry.request) }
         requires seat { entry.seat ≤ 16 }
-        ensures opening { SameOpening self.old self.new }
-        ensures entered { Entered self.old entry result self.new }
-        ensures limited { Limited self.old entry result }
-        ensures begun { Begun self.old entry result self.new }
-        ensures tallied { Tallied self.old entry result self.new }
-        ensures unwritten { Unwritten self.old entry result self.new }
-        ensures goes { Always D.moment D.since (SaysEither self.old.schema (kept_of self.old) self.old.begun (change_by self.old entry)) self.old.disks self.new.disks }
-        ensures count { NoneFell D.faults self.old.disks self.new.disks }
-        ensures cause { result ≡ Err StoreFault → OneRose D.faults self.old.disks self.new.disks }
+        ensures { IsStepOf D.moment D.since D.faults self.old entry result self.new }
     {
-        let side = self.journal.side_length();
-        let seat = entry.seat;
-        let (ready, copy) = make_ready(&mut self.course, side, &entry)?;
-        match write(&mut self.journal, &mut self.begun, &self.course.body, copy) {
-            Ok(()) => Ok(enter(&mut self.course, entry, ready)),
-            Err(_) => {
-                raise(&mut self.tally, seat);
-                Err(StepFault::StoreFault)
-            }
-        }
+        take_step(
+            &mut self.course,
+            &mut self.journal,
+            &mut self.begun,
+            &mut self.tally,
+            entry,
+        )
     }
 
     /// Answers a read, and prints this moment, 200,000,000,000 at the most. `OutOfMemory`: memory ran out.
@@ -128,7 +108,7 @@ impl<D: Disk> Store<D> {
 
     /// The change that the last entry made; none where it made none, or where there is no entry.
     pub fn last_change(&self) -> Option<&Change>
-        ensures { map_option (λ change. change.now) result ≡ last_made self.now.schema self.now.opening self.now.entries }
+        ensures { option_map (λ change. change.now) result ≡ last_made self.now.schema self.now.opening self.now.entries }
     {
         self.course.last.as_ref()
     }

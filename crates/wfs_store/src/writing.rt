@@ -1,6 +1,6 @@
 //! A change is written to the journal.
 
-ghost use Rattle.std.specs.Prelude.{◌≡◌, ◌+◌, None, OnErr, OnOk};
+ghost use Rattle.std.specs.Prelude.{◌≡◌, ◌+◌, None, Ok, OnErr, OnOk};
 ghost use Rattle.std.specs.Option.{IfSome};
 ghost use Rattle.disk_core.specs.Sides.{Always};
 ghost use Rattle.durable_journal.specs.Kept.{Keeps};
@@ -13,7 +13,7 @@ ghost use Rattle.wfs_store.specs.Ready.{IsWritable};
 ghost use Rattle.wfs_store.specs.Written.{begun_after, WasLeft, IsWritten, longer_by};
 
 use disk_core::Disk;
-use durable_journal::{Recorded, record_change};
+use durable_journal::{Recorded, record_change, stands};
 use feature_journal::Journal;
 use wfs_ends::Failed;
 use wfs_model::Change;
@@ -37,12 +37,15 @@ pub(crate) fn write<D: Disk>(
     ensures longer { OnOk result (length_of journal.new ≡ length_of journal.old + longer_by change body.now) }
     ensures same { OnErr result (length_of journal.new ≡ length_of journal.old) }
     ensures limit { limit_of journal.new ≡ limit_of journal.old }
-    ensures unwritten { change ≡ None → journal.new ≡ journal.old }
+    ensures unwritten { change ≡ None → (result ≡ Ok tt) × (journal.new ≡ journal.old) }
     ensures count { NoneFell D.faults (disks_of journal.old) (disks_of journal.new) }
     ensures cause { OnErr result (OneRose D.faults (disks_of journal.old) (disks_of journal.new)) }
 {
     match change {
-        None => Ok(()),
+        None => {
+            stands(journal);
+            Ok(())
+        }
         Some(change) => match record_change(journal, body) {
             Recorded::Done => {
                 *begun = None;
