@@ -7,12 +7,16 @@ use Rattle.feature_journal.specs.Kept.{length_of, limit_of}
 use Rattle.feature_values.specs.declared.schema.Schema.{Schema}
 use Rattle.wfs_model.specs.declared.change.Change.{Change}
 use Rattle.wfs_model.specs.declared.entry.Entry.{Entry}
-use Rattle.wfs_model.specs.Played.{accepted}
+use Rattle.wfs_model.specs.Changing.{IsChange}
+use Rattle.wfs_model.specs.OfSchema.{IsOfSchema}
+use Rattle.wfs_model.specs.Played.{accepted, change_of}
+use Rattle.wfs_model.specs.Step.{step}
 use Rattle.wfs_model.specs.State.{State, durable}
 use Rattle.wfs_store.specs.declared.course.Course.{Course}
 use Rattle.wfs_store.specs.Kept.{IsCourse, IsStore, body_length, length_after, opening_on}
 use Rattle.wfs_store.specs.Past.{IsPast}
 use Rattle.wfs_store.specs.Ready.{SamePast}
+use Rattle.wfs_store.proofs.Histories.{past_more}
 
 pub same_course : (opening : State) (old new : Course) → SamePast old new → IsCourse opening old → IsCourse opening new
 same_course opening old new same is = record {
@@ -20,6 +24,21 @@ same_course opening old new same is = record {
   signature = rw (same.signature, same.schema) is.signature;
   rules = rw same.schema is.rules;
   few = rw (same.bytes, same.limits) is.few;
+}
+
+-- one more entry
+pub entered_course : (opening : State) (old new : Course) (entry : Entry) (moment : ℕ) → IsCourse opening old
+    → IsChange entry.request → IsOfSchema old.state.schema entry.request → old.state.state.last ≤ moment → old.bytes + entry.size ≤ old.limits.bytes
+    → new.history.items ≡ old.history.items ++ record entry { moment = moment } ∷ [] → new.state.state ≡ (step old.state.schema old.state.state moment entry.request).1
+    → new.state.schema ≡ old.state.schema → new.limits ≡ old.limits → new.signature ≡ old.signature
+    → new.bytes ≡ old.bytes + entry.size → new.last ≡ change_of old.state.schema old.state.state moment entry.request
+    → IsCourse opening new
+entered_course opening old new entry moment is change fitting later few entries state schema limits signature bytes last = record {
+  past = rw (schema, state, entries, bytes, last)
+      (past_more old.state.schema opening old.state.state old.history.items old.bytes old.last (record entry { moment = moment }) is.past change fitting later);
+  signature = rw (signature, schema) is.signature;
+  rules = rw schema is.rules;
+  few = rw (bytes, limits) few;
 }
 
 -- ---- the whole store

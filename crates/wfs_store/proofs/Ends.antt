@@ -26,19 +26,15 @@ use Rattle.wfs_store.specs.declared.course.Ready.{Ready}
 use Rattle.wfs_store.specs.declared.fault.StepFault.{StepFault}
 use Rattle.wfs_store.specs.declared.fault.StepFault.TheVariants.{StoreFault, Full, OutOfMemory}
 use Rattle.wfs_store.specs.Held.{Held, now_of, kept_of}
-use Rattle.wfs_store.specs.Judged.{Judges, added_by}
+use Rattle.wfs_store.specs.Judged.{IsFaultOf, added_by}
 use Rattle.wfs_store.specs.Kept.{IsCourse, IsStore, body_length, length_after, opening_on, held_of}
 use Rattle.wfs_store.specs.Ready.{IsTaken, IsWritable, SamePast}
 use Rattle.wfs_store.specs.Stepped.{taken_up, full_for, change_by, SameOpening, IsStepOf, one_more}
 use Rattle.wfs_store.specs.Written.{begun_after, WasLeft, IsWritten, longer_by}
 use Rattle.wfs_store.proofs.Courses.{same_course, store_stays}
 use Rattle.wfs_store.proofs.Histories.{longer_with}
+use Rattle.wfs_store.proofs.Verdicts.{full_in}
 use Rattle.wfs_store.proofs.Recordable.{kept_after}
-
--- the limit that an entry would pass, as it is judged in memory
-abbrev pub full_in : (opening : State) (start : ℕ) → Course → Entry → Option FullAt
-full_in opening start course entry =
-    full_at course.state.schema (body_length course.state.schema) start opening course.limits course.history.items (timed course.state.state entry)
 
 module _ {D : Type 0} (moment : D → ℕ) (since : D → ℕ → List ℕ → Type 0) (images : D → List ℕ → Type 0) (faults : D → ℕ)
     (counts : (d : D) (t : ℕ) (c : List ℕ) → t ≤ moment d → images d c → since d t c) (only : (d : D) (c : List ℕ) → since d (moment d) c → images d c)
@@ -52,8 +48,11 @@ module _ {D : Type 0} (moment : D → ℕ) (since : D → ℕ → List ℕ → T
   now_is : old.state.state ≡ now_of was
   now_is = is.memory.past.state
 
-  judged_full : {T : Type 0} (result : Result T StepFault) → Judges (full_in (opening_on old.state.schema bodies) side old entry) result → Judges (full_for was entry) result
-  judged_full result judged = subst (λ (s : State). Judges (full_at old.state.schema (body_length old.state.schema) side (opening_on old.state.schema bodies) old.limits old.history.items (timed s entry)) result) now_is judged
+  judged_fault : (fault : StepFault) → IsFaultOf (full_in (opening_on old.state.schema bodies) side old entry) fault → IsFaultOf (full_for was entry) fault
+  judged_fault fault judged = subst (λ (s : State). IsFaultOf (full_at old.state.schema (body_length old.state.schema) side (opening_on old.state.schema bodies) old.limits old.history.items (timed s entry)) fault) now_is judged
+
+  judged_none : full_in (opening_on old.state.schema bodies) side old entry ≡ None → full_for was entry ≡ None
+  judged_none judged = subst (λ (s : State). full_at old.state.schema (body_length old.state.schema) side (opening_on old.state.schema bodies) old.limits old.history.items (timed s entry) ≡ None) now_is judged
 
   same_opening : (after : Journal D) (left : Option Change) (counted : List ℕ) → SameOpening was (held_of mid after bodies side left counted)
   same_opening after left counted = record { schema = same.schema; limits = same.limits; opening = ap (λ (s : Schema). opening_on s bodies) same.schema; side = refl }
@@ -69,14 +68,14 @@ module _ {D : Type 0} (moment : D → ℕ) (since : D → ℕ → List ℕ → T
   no_fall : NoneFell faults (disks_of before) (disks_of before)
   no_fall = (omega arith, omega arith)
 
-  pub refused_step : {T : Type 0} (fault : StepFault) → Judges {T = T} (full_in (opening_on old.state.schema bodies) side old entry) (Err fault)
+  pub refused_step : (fault : StepFault) → IsFaultOf (full_in (opening_on old.state.schema bodies) side old entry) fault
       → EveryBoth images (SaysWith old.state.schema (durable old.state.state) begun) (disks_of before)
       → IsStepOf moment since faults was entry (Err fault) (held_of mid before bodies side begun tally)
-  refused_step {T} StoreFault judged stand = absurd judged
-  refused_step {T} (Full at) judged stand = record {
+  refused_step StoreFault judged stand = absurd judged
+  refused_step (Full at) judged stand = record {
     opening = same_opening before begun tally;
     entered = same.entries;
-    limited = judged_full {T = T} (Err (Full at)) judged;
+    limited = judged_fault (Full at) judged;
     begun = refl;
     tallied = refl;
     unwritten = refl;
@@ -84,7 +83,7 @@ module _ {D : Type 0} (moment : D → ℕ) (since : D → ℕ → List ℕ → T
     count = no_fall;
     cause = λ e. absurd cc;
   }
-  refused_step {T} OutOfMemory judged stand = record {
+  refused_step OutOfMemory judged stand = record {
     opening = same_opening before begun tally;
     entered = same.entries;
     limited = tt;
@@ -127,7 +126,7 @@ module _ {D : Type 0} (moment : D → ℕ) (since : D → ℕ → List ℕ → T
     failed_step after left counted full goes was_left some more fell rose = record {
       opening = same_opening after left counted;
       entered = same.entries;
-      limited = judged_full {T = Unit {0}} (Ok tt) full;
+      limited = judged_none full;
       begun = subst (λ (made : Option Change). WasLeft begun made left) copy_by was_left;
       tallied = more;
       unwritten = λ none. some (copy_by ∙ none);
@@ -147,7 +146,7 @@ module _ {D : Type 0} (moment : D → ℕ) (since : D → ℕ → List ℕ → T
     done_step new after left reply full goes left_is unwritten fell entries stepped schema limits = record {
       opening = record { schema = schema ∙ same.schema; limits = limits ∙ same.limits; opening = ap (λ (s : Schema). opening_on s bodies) (schema ∙ same.schema); side = refl };
       entered = (entries ∙ ap (λ (l : List Entry). l ++ record entry { moment = ready.moment } ∷ []) same.entries ∙ ap (λ (e : Entry). old.history.items ++ e ∷ []) taken_is, reply_is);
-      limited = judged_full {T = Unit {0}} (Ok tt) full;
+      limited = judged_none full;
       begun = left_is ∙ ap (λ (made : Option Change). begun_after made begun) copy_by;
       tallied = refl;
       unwritten = λ none. ap disks_of (unwritten (copy_by ∙ none));

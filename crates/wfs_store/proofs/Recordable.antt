@@ -23,6 +23,8 @@ use Rattle.wfs_model.specs.Plans.{Planning}
 use Rattle.wfs_model.specs.State.{Durable, State, durable}
 use Rattle.wfs_model.specs.Step.{plan_of, step}
 use Rattle.wfs_model.specs.Stored.{created, dropped}
+use Rattle.wfs_model.specs.Playable.{is_playable}
+use Rattle.wfs_store.specs.Ready.{IsSpelledFor, IsWritable}
 
 -- ---- texts of stored queries
 
@@ -75,3 +77,24 @@ can_stand stored (Base opening counters) can = absurd can
 pub kept_after : (schema : Schema) (state : State) (moment : ℕ) (request : Request) (plan : Plan) → IsPlan schema state moment request plan
     → durable (step schema state moment request).1 ≡ played (durable state) (option_to_list plan.change)
 kept_after schema state moment request plan is = ap (λ (d : Reply × State). durable d.1) (sym is.step)
+
+-- the change of a plan that is prepared, and whose body is spelled, may be recorded
+pub writable_if : (schema : Schema) (state : State) (moment : ℕ) (request : Request) (plan : Plan) (side limit : ℕ) (body : List ℕ)
+    → IsPlan schema state moment request plan → CanPlay state.stored plan.change → IfSome plan.change (λ change. is_playable schema (durable state) change ≡ true)
+    → All (IsKeptText schema) (stored_in request) → IfSome plan.change (IsSpelledFor schema side limit body)
+    → IfSome plan.change (IsWritable schema (durable state) side limit body)
+writable_if schema state moment request plan side limit body is can playable texts spelled = by_case plan.change is.change can playable spelled
+  where
+    by_case : (made : Option Change) → made ≡ change_of schema state moment request → CanPlay state.stored made → IfSome made (λ change. is_playable schema (durable state) change ≡ true)
+        → IfSome made (IsSpelledFor schema side limit body) → IfSome made (IsWritable schema (durable state) side limit body)
+    by_case None made can playable spelled = tt
+    by_case (Some change) made can playable spelled = record {
+      may = record {
+        is = spelled.body_is;
+        stands = can_stand state.stored change can;
+        playable = playable;
+        texts = texts_kept schema state moment request change texts (sym made);
+        read_back = spelled.read_back;
+      };
+      fits = spelled.fits;
+    }

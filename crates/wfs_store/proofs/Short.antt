@@ -2,6 +2,7 @@
 use Rattle.std.proofs.Common.{◌≡◌, ℕ, ◌<◌, ◌≤◌, Bool, true, false, List, [], ◌∷◌, length, get_or, All, Option, Some, None, Result, Ok, Err, refl, sym, ap, ◌∙◌, subst, arith}
 use Rattle.std.specs.Prelude.{◌&&◌, ◌==◌, if◌then◌else◌, slice_get, is_some}
 use Rattle.std.specs.List.{fold, find}
+use Rattle.std.specs.Option.{IfSome}
 use Rattle.std.proofs.lemmas.Bool.{and_parts}
 use Rattle.std.proofs.lemmas.List.Elements.{All-nil, All-cons, All-get_or, All-head, All-tail}
 use Rattle.std.proofs.lemmas.Option.{get_or_from_slice_get, slice_get_within}
@@ -115,3 +116,8 @@ short_change schema kept (Base opening counters) rules well is =
     let types = rules.few_types in
     let same : length counters ≡ length schema.types = grind (arith, is) in
     omega (arith, types, same)
+
+pub short_if : (schema : Schema) (kept : Durable) (made : Option Change) → KeepsRules schema → IsKept schema kept
+    → IfSome made (λ change. is_playable schema kept change ≡ true) → IfSome made AreShort
+short_if schema kept None rules well playable = tt
+short_if schema kept (Some change) rules well playable = short_change schema kept change rules well playable

@@ -25,12 +25,16 @@ added_by body changes = sum_by (λ change. 5 + body change) changes
 abbrev pub passed_by_side : (limit : ℕ) → (Change → ℕ) → ℕ → Option Change → Option FullAt
 passed_by_side limit body side change = at_limit Side (passes limit side (side + added_by body (option_to_list change)))
 
--- A call answers the limit that is passed, and goes on only where none is; it may want memory.
+-- a step that comes to nothing before any disk is asked tells the limit that is passed, or memory ran out
+abbrev pub IsFaultOf : Option FullAt → StepFault → Type 0
+IsFaultOf passed (Full at) = passed ≡ Some at
+IsFaultOf passed StoreFault = ⊥
+IsFaultOf passed OutOfMemory = ⊤
+
+-- a call goes on only where no limit is passed
 abbrev pub Judges : {T : Type 0} → Option FullAt → Result T StepFault → Type 0
 Judges passed (Ok done) = passed ≡ None
-Judges passed (Err (Full at)) = passed ≡ Some at
-Judges passed (Err StoreFault) = ⊥
-Judges passed (Err OutOfMemory) = ⊤
+Judges passed (Err fault) = IsFaultOf passed fault
 
 -- what of preparing a plan is a step's fault
 abbrev pub same_fault : PrepareFault → StepFault
