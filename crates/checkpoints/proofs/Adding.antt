@@ -103,9 +103,13 @@ module _ {D : Type 0} (moment : D → ℕ) (since : D → ℕ → List ℕ → T
   wider : (x y : List ℕ) → Says (bodies ∷ []) x y → Says (bodies ∷ added ∷ []) x y
   wider x y says = says_more (bodies ∷ added ∷ []) bodies x y (inl refl) says
 
+  -- nothing is written
+  pub alone_still : (counts : (d : D) (t : ℕ) (c : List ℕ) → t ≤ moment d → images d c → since d t c) (only : (d : D) (c : List ℕ) → since d (moment d) c → images d c) (journal : Journal D) → Rests images bodies (seen journal) → Always moment since (Says (bodies ∷ [])) (disks_of journal) (disks_of journal)
+  alone_still counts only journal rests =
+      once _ _ (within_still moment since images counts only (Says (bodies ∷ [])) (disks_of journal) (held_says images journal.second_side _ _ bodies journal.disks rests.held))
+
   pub rest_goes : (counts : (d : D) (t : ℕ) (c : List ℕ) → t ≤ moment d → images d c → since d t c) (only : (d : D) (c : List ℕ) → since d (moment d) c → images d c) (journal : Journal D) → Rests images bodies (seen journal) → Always moment since (Says (bodies ∷ added ∷ [])) (disks_of journal) (disks_of journal)
-  rest_goes counts only journal rests =
-      once _ _ (within_still moment since images counts only (Says (bodies ∷ added ∷ [])) (disks_of journal) (λ x y at_a at_b. wider x y (held_says images journal.second_side _ _ bodies journal.disks rests.held x y at_a at_b)))
+  rest_goes counts only journal rests = always_more moment since (Says (bodies ∷ [])) (Says (bodies ∷ added ∷ [])) (disks_of journal) (disks_of journal) wider (alone_still counts only journal rests)
 
   pub begun_goes : (old mid : Pair D) → Within moment since (Says (bodies ∷ [])) old mid → Always moment since (Says (bodies ∷ added ∷ [])) old mid
   begun_goes old mid first = once _ _ (within_more moment since (Says (bodies ∷ [])) (Says (bodies ∷ added ∷ [])) old mid wider first)

@@ -1,9 +1,10 @@
 //! The records of a source become the list of a journal, on its other side.
 
 ghost use Rattle.std.specs.Prelude.{◌≡◌, ◌⊎◌, ◌≤◌, ◌<◌, ◌+◌, ◌++◌, ◌∷◌, [], ℕ, List, length, not, IfOk, OnOk, OnErr, Ok, Err, IsErrOf};
+ghost use Rattle.std.specs.List.{AllByRecursion};
 ghost use Rattle.wfs_ends.specs.Ends.{last_count};
 ghost use Rattle.disk_core.specs.Sides.{Within, Always};
-ghost use Rattle.feature_journal.specs.Whole.{Says};
+ghost use Rattle.feature_journal.specs.Whole.{Says, Fits};
 ghost use Rattle.feature_journal.specs.Kept.{seen, Rests, BeganSide, Makes, SameSide, disks_of, is_second, generation_in, length_of, limit_of, made_length_of};
 ghost use Rattle.feature_journal.specs.Faults.{NoneFell, OneRose};
 ghost use Rattle.checkpoints.specs.Source.{fault_from};
@@ -55,11 +56,11 @@ fn add_all<D: Disk, R: RecordSource>(
 
 /// Makes a journal's list these records, on its other side. They are to be worth the same as the list.
 ///
-/// At each moment a crash leaves the list, or, from the gate of the new side on, the records. After Ok the list is the
-/// records, on the side that was not current, with the next generation. After a refusal the journal's side is what it
-/// was; a fault at the new side's gate leaves that side begun, and `Journal::repair` ends it. `Full` comes exactly where
-/// the side with some more of the records passes its limit, with that length; and, before anything is written, where the
-/// generation is the last one, with that number.
+/// At each moment a crash leaves the list, or, from the gate of the new side on, the records, each of which is then such as
+/// a side can hold. After Ok the list is the records, on the side that was not current, with the next generation. After a
+/// refusal the journal's side is what it was; a fault at the new side's gate leaves that side begun, and `Journal::repair`
+/// ends it. `Full` comes exactly where the side with some more of the records passes its limit, with that length; and,
+/// before anything is written, where the generation is the last one, with that number.
 pub fn compact<D: Disk, R: RecordSource>(
     alloc: Global,
     journal: &mut Journal<D>,
@@ -67,6 +68,7 @@ pub fn compact<D: Disk, R: RecordSource>(
 ) -> Result<(), CompactFault>
     requires { (bodies : List (List ℕ)) × Rests D.images bodies (seen journal.old) }
     ensures goes { (bodies : List (List ℕ)) → Rests D.images bodies (seen journal.old) → Always D.moment D.since (Says (bodies ∷ R.left records.old ∷ [])) (disks_of journal.old) (disks_of journal.new) }
+    ensures reaches { (bodies : List (List ℕ)) → Rests D.images bodies (seen journal.old) → Always D.moment D.since (Says (bodies ∷ [])) (disks_of journal.old) (disks_of journal.new) ⊎ AllByRecursion Fits (R.left records.old) }
     ensures done { OnOk result (Rests D.images (R.left records.old) (seen journal.new)) }
     ensures turned { OnOk result ((is_second journal.new ≡ not (is_second journal.old)) × (generation_in journal.new ≡ generation_in journal.old + 1) × (length_of journal.new ≡ side_length (R.left records.old)) × (limit_of journal.new ≡ limit_of journal.old)) }
     ensures fault { OnErr result ((bodies : List (List ℕ)) → Rests D.images bodies (seen journal.old) → Rests D.images bodies (seen journal.new) ⊎ BeganSide D.images bodies (R.left records.old) (seen journal.new)) }

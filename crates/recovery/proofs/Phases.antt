@@ -3,7 +3,7 @@ use Rattle.std.proofs.Common.{◌≡◌, ◌≤◌, inl, inr, ⊎_elim, ℕ, ◌
 use Rattle.std.specs.Int.{to_be_bytes, w64}
 use Rattle.disk_core.specs.Disk.{Leads, Every, Same, Begins}
 use Rattle.disk_core.specs.Sides.{Within, Always, chosen, spare}
-use Rattle.disk_core.specs.Sides.Always.{once, then as link}
+use Rattle.disk_core.specs.Sides.Always.{then as link}
 use Rattle.disk_core.specs.declared.pair.Pair.{Pair}
 use Rattle.disk_core.proofs.Seen.{at_some}
 use Rattle.feature_journal.specs.Side.{side, mark, Closed}
@@ -24,7 +24,7 @@ use Rattle.recovery.specs.Choice.{IsResting as resting}
 use Rattle.recovery.specs.Choice.{IsBeside as beside}
 use Rattle.recovery.specs.Looked.{EndsAt, FoundAt, NothingAt, Kept, Untouched, Settles}
 use Rattle.recovery.specs.Answer.{OnlyGates}
-use Rattle.recovery.specs.Crash.{AllStable, AtStart, AfterSync, OrTail, WithTail}
+use Rattle.recovery.specs.Crash.{AllStable, AtStart, OnceSynced, OrTail, WithTail}
 use Rattle.recovery.specs.Outcome.{Judge, outcome_of}
 use Rattle.recovery.specs.Outcome.Outcome.{found}
 use Rattle.recovery.proofs.Agrees.{agreed, recovers_found}
@@ -167,13 +167,8 @@ or_tail_says (Some body) lists bodies x y says = inl says
 module _ {D : Type 0} (shown : D → Option (List ℕ)) (moment : D → ℕ) (since : D → ℕ → List ℕ → Type 0) (images : D → List ℕ → Type 0) where
   -- both files were synced and read, and then this was done
   pub after_sync : (P : List ℕ → List ℕ → Type 0) (old read mid new : Pair D) (a b : List ℕ) → Within moment since (AtStart images old) old read → AllStable shown images old read → shown old.a ≡ Some a → shown old.b ≡ Some b → P a b
-      → Untouched shown moment since images read mid → Always moment since P mid new → AfterSync shown moment since images P old new
-  after_sync P old read mid new a b within stable is_a is_b p untouched rest = inr (read, within, stable, link read mid new (read_within shown moment since images P old read mid a b stable is_a is_b p untouched) rest)
-
-  -- nothing was done
-  pub after_look : (P : List ℕ → List ℕ → Type 0) (old read mid : Pair D) (a b : List ℕ) → Within moment since (AtStart images old) old read → AllStable shown images old read → shown old.a ≡ Some a → shown old.b ≡ Some b → P a b
-      → Untouched shown moment since images read mid → AfterSync shown moment since images P old mid
-  after_look P old read mid a b within stable is_a is_b p untouched = inr (read, within, stable, once read mid (read_within shown moment since images P old read mid a b stable is_a is_b p untouched))
+      → Untouched shown moment since images read mid → Always moment since P mid new → OnceSynced shown moment since images P old new
+  after_sync P old read mid new a b within stable is_a is_b p untouched rest = (read, within, stable, link read mid new (read_within shown moment since images P old read mid a b stable is_a is_b p untouched) rest)
 
 -- Both files were synced, from old to mid, and then read.
 pub record Read {D : Type 0} (shown : D → Option (List ℕ)) (moment : D → ℕ) (since : D → ℕ → List ℕ → Type 0) (images : D → List ℕ → Type 0) (old mid read : Pair D) : Type 0 where
@@ -224,14 +219,14 @@ module _ {D : Type 0} (shown : D → Option (List ℕ)) (moment : D → ℕ) (si
     abbrev there_b : shown read.b ≡ Some b
     there_b = p.untouched.b.same ∙ p.synced.b.same ∙ is_b
 
-    pub nothing_goes : (s t : Bool) → NothingAt shown s t mid → Unmade a → Unmade b → (Dormant s (images read.a) → Dormant t (images read.b) → Always moment since Nothing read new) → AfterSync shown moment since images Nothing old new
+    pub nothing_goes : (s t : Bool) → NothingAt shown s t mid → Unmade a → Unmade b → (Dormant s (images read.a) → Dormant t (images read.b) → Always moment since Nothing read new) → OnceSynced shown moment since images Nothing old new
     nothing_goes s t at un_a un_b goes =
         let here = nothing_kept s t mid read p.untouched at in
         after_sync shown moment since images Nothing old mid read new a b p.within p.stable is_a is_b (inl (un_a, un_b)) p.untouched
         (goes (dormant_a shown images tells s t read a b still here there_a un_a) (dormant_b shown images tells s t read a b still here there_b un_b))
 
     pub tail_goes : (judge : Judge) (limit : ℕ) (f : Found) (taken : List (List ℕ)) (lists : List (List (List ℕ))) (s : Says lists a b) → FoundAt shown f limit taken mid → outcome_of judge limit a b ≡ found f.second f.generation f.gate taken
-        → ((r : Reading) → Known images f.second f.gate f.is_stale f.is_closed r read → Always moment since (SaysOr f.is_closed r) read new) → AfterSync shown moment since images (WithTail lists s) old new
+        → ((r : Reading) → Known images f.second f.gate f.is_stale f.is_closed r read → Always moment since (SaysOr f.is_closed r) read new) → OnceSynced shown moment since images (WithTail lists s) old new
     tail_goes judge limit f taken lists s at outcome goes =
         after_sync shown moment since images (WithTail lists s) old mid read new a b p.within p.stable is_a is_b (or_tail_says (tail_in s.ends) lists s.bodies a b s) p.untouched
         (found_goes shown images tells moment since judge limit f taken read new lists a b s still (found_kept f limit taken mid read p.untouched at) there_a there_b outcome goes)

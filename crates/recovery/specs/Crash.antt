@@ -15,11 +15,13 @@ pub record AllStable {D : Type 0} (shown : D → Option (List ℕ)) (images : D 
   pub a : Every (images new.a) (λ x. shown old.a ≡ Some x)
   pub b : Every (images new.b) (λ y. shown old.b ≡ Some y)
 
--- Until both files are synced, what a crash at the start might have left; from then on only this.
+-- until both files are synced, what a crash at the start might have left, and from then on only this
+abbrev pub OnceSynced : {D : Type 0} (shown : D → Option (List ℕ)) (moment : D → ℕ) (since : D → ℕ → List ℕ → Type 0) (images : D → List ℕ → Type 0) (P : List ℕ → List ℕ → Type 0) → Pair D → Pair D → Type 0
+OnceSynced {D} shown moment since images P old new = (mid : Pair D) × Within moment since (AtStart images old) old mid × AllStable shown images old mid × Always moment since P mid new
+
+-- the same, where it may be that not both were synced
 abbrev pub AfterSync : {D : Type 0} (shown : D → Option (List ℕ)) (moment : D → ℕ) (since : D → ℕ → List ℕ → Type 0) (images : D → List ℕ → Type 0) (P : List ℕ → List ℕ → Type 0) → Pair D → Pair D → Type 0
-AfterSync {D} shown moment since images P old new =
-    Within moment since (AtStart images old) old new
-    ⊎ ((mid : Pair D) × Within moment since (AtStart images old) old mid × AllStable shown images old mid × Always moment since P mid new)
+AfterSync shown moment since images P old new = Within moment since (AtStart images old) old new ⊎ OnceSynced shown moment since images P old new
 
 -- a list, or it with the tail behind its ending gate, where there is one
 abbrev pub OrTail : Option (List ℕ) → (lists : List (List (List ℕ))) (bodies : List (List ℕ)) → List ℕ → List ℕ → Type 0

@@ -82,6 +82,7 @@ fn ending_of<R: Replay>(read: &Side, replay: &mut R) -> Result<Ending, RecoverFa
     ensures size { IfOk result (λ e. (generation : ℕ) → length (side generation (R.taken replay.new)) ≡ e.gate) }
     ensures fits { IfOk result (λ e. AllByRecursion Fits (R.taken replay.new)) }
     ensures within { IfOk result (λ e. e.gate + 1 ≤ read.now.limit) }
+    ensures setting { R.setting replay.new ≡ R.setting replay.old }
     ensures verdict { R.verdict replay.new ≡ R.verdict replay.old }
 {
     if read.len < 17 {
@@ -114,6 +115,7 @@ fn read_side<D: Disk, R: Replay>(
     ensures size { IfOk result (λ e. (generation : ℕ) → length (side generation (R.taken replay.new)) ≡ e.gate) }
     ensures fits { IfOk result (λ e. AllByRecursion Fits (R.taken replay.new)) }
     ensures within { IfOk result (λ e. e.gate + 1 ≤ limit) }
+    ensures setting { R.setting replay.new ≡ R.setting replay.old }
     ensures verdict { R.verdict replay.new ≡ R.verdict replay.old }
     ensures same { D.shown disk.new ≡ D.shown disk.old }
     ensures crash { Leads D.moment D.since D.images Same disk.old disk.new }
@@ -143,6 +145,7 @@ fn read_chosen<D: Disk, R: Replay>(
     ensures size { IfOk result (λ e. (generation : ℕ) → length (side generation (R.taken replay.new)) ≡ e.gate) }
     ensures fits { IfOk result (λ e. AllByRecursion Fits (R.taken replay.new)) }
     ensures within { IfOk result (λ e. e.gate + 1 ≤ limit) }
+    ensures setting { R.setting replay.new ≡ R.setting replay.old }
     ensures verdict { R.verdict replay.new ≡ R.verdict replay.old }
     ensures untouched { Untouched D.shown D.moment D.since D.images disks.old disks.new }
     ensures count { NoneFell D.faults disks.old disks.new }
@@ -197,6 +200,7 @@ pub(crate) fn look<D: Disk, R: Replay>(
     requires { limit ≤ greatest_side }
     ensures answer { (a b : List ℕ) → D.shown disks.old.a ≡ Some a → D.shown disks.old.b ≡ Some b → LookedIs result (outcome_of (R.verdict replay.old) limit a b) (R.taken replay.new) }
     ensures known { IfOk result (λ l. LookedAt D.shown l limit (R.taken replay.new) disks.old) }
+    ensures setting { R.setting replay.new ≡ R.setting replay.old }
     ensures verdict { R.verdict replay.new ≡ R.verdict replay.old }
     ensures untouched { Untouched D.shown D.moment D.since D.images disks.old disks.new }
     ensures count { NoneFell D.faults disks.old disks.new }

@@ -13,7 +13,7 @@ ghost use Rattle.feature_journal.specs.Nothing.{Dormant, Unused};
 ghost use Rattle.recovery.specs.Outcome.{outcome_of};
 ghost use Rattle.recovery.specs.Looked.{Untouched, RefusesOr, FoundAt, NothingAt, Settles};
 ghost use Rattle.recovery.specs.Answer.{Answered, AnsweredErr, Current, LengthIs, OnlyGates};
-ghost use Rattle.recovery.specs.Crash.{AfterSync, WithTail, AllStable};
+ghost use Rattle.recovery.specs.Crash.{AfterSync, OnceSynced, WithTail, AllStable};
 
 use crate::look::{Found, Looked, look};
 use crate::{RecoverFault, Replay};
@@ -111,10 +111,11 @@ pub fn recover<D: Disk, R: Replay>(
     ensures unwritten { IfErr result (λ e. (e.1 ≡ RecoverFault.DiskFault → ⊥) → Untouched D.shown D.moment D.since D.images disks e.0) }
     ensures gates { IfOk result (λ j. (a b : List ℕ) → D.shown disks.a ≡ Some a → D.shown disks.b ≡ Some b → OnlyGates D.shown D.moment D.since D.images (outcome_of (R.verdict replay.old) side a b) a b disks (disks_of j)) }
     ensures gates_err { IfErr result (λ e. (a b : List ℕ) → D.shown disks.a ≡ Some a → D.shown disks.b ≡ Some b → OnlyGates D.shown D.moment D.since D.images (outcome_of (R.verdict replay.old) side a b) a b disks e.0) }
-    ensures crash { IfOk result (λ j. (a b : List ℕ) (lists : List (List (List ℕ))) → D.shown disks.a ≡ Some a → D.shown disks.b ≡ Some b → (s : Says lists a b) → AfterSync D.shown D.moment D.since D.images (WithTail lists s) disks (disks_of j)) }
+    ensures crash { IfOk result (λ j. (a b : List ℕ) (lists : List (List (List ℕ))) → D.shown disks.a ≡ Some a → D.shown disks.b ≡ Some b → (s : Says lists a b) → OnceSynced D.shown D.moment D.since D.images (WithTail lists s) disks (disks_of j)) }
     ensures crash_err { IfErr result (λ e. (a b : List ℕ) (lists : List (List (List ℕ))) → D.shown disks.a ≡ Some a → D.shown disks.b ≡ Some b → (s : Says lists a b) → AfterSync D.shown D.moment D.since D.images (WithTail lists s) disks e.0) }
-    ensures nothing { IfOk result (λ j. (a b : List ℕ) → D.shown disks.a ≡ Some a → D.shown disks.b ≡ Some b → Unmade a → Unmade b → AfterSync D.shown D.moment D.since D.images Nothing disks (disks_of j)) }
+    ensures nothing { IfOk result (λ j. (a b : List ℕ) → D.shown disks.a ≡ Some a → D.shown disks.b ≡ Some b → Unmade a → Unmade b → OnceSynced D.shown D.moment D.since D.images Nothing disks (disks_of j)) }
     ensures nothing_err { IfErr result (λ e. (a b : List ℕ) → D.shown disks.a ≡ Some a → D.shown disks.b ≡ Some b → Unmade a → Unmade b → AfterSync D.shown D.moment D.since D.images Nothing disks e.0) }
+    ensures setting { R.setting replay.new ≡ R.setting replay.old }
     ensures verdict { R.verdict replay.new ≡ R.verdict replay.old }
     ensures count { IfOk result (λ j. NoneFell D.faults disks (disks_of j)) }
     ensures count_err { IfErr result (λ e. NoneFell D.faults disks e.0) }
@@ -144,6 +145,7 @@ pub fn look_over<D: Disk, R: Replay>(
     ensures answer { IfOk result (λ n. (a b : List ℕ) → D.shown disks.old.a ≡ Some a → D.shown disks.old.b ≡ Some b → LengthIs n (outcome_of (R.verdict replay.old) side a b) (R.taken replay.new)) }
     ensures refused { IfErr result (λ e. (a b : List ℕ) → D.shown disks.old.a ≡ Some a → D.shown disks.old.b ≡ Some b → RefusesOr e (outcome_of (R.verdict replay.old) side a b) (R.taken replay.new)) }
     ensures unwritten { Untouched D.shown D.moment D.since D.images disks.old disks.new }
+    ensures setting { R.setting replay.new ≡ R.setting replay.old }
     ensures verdict { R.verdict replay.new ≡ R.verdict replay.old }
     ensures count { NoneFell D.faults disks.old disks.new }
     ensures cause { result ≡ Err RecoverFault.DiskFault → OneRose D.faults disks.old disks.new }

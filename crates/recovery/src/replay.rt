@@ -28,6 +28,12 @@ impl From<OutOfMemory> for ReplayFault {
 
 /// What takes the bodies of a journal's records, one after the other.
 pub trait Replay {
+    /// What bodies are judged by, such as a schema.
+    ghost Setting: { Type 0 };
+
+    /// What they are judged by here. No call changes it.
+    ghost setting: { Self → Setting };
+
     /// The bodies that were taken since the last restart.
     ghost taken: { Self → List (List ℕ) };
 
@@ -37,6 +43,7 @@ pub trait Replay {
     /// Forgets what was taken.
     fn restart(&mut self)
         ensures taken { taken self.new ≡ [] }
+        ensures setting { setting self.new ≡ setting self.old }
         ensures verdict { verdict self.new ≡ verdict self.old };
 
     /// Takes a body, whose number is how many were taken before it. It answers the verdict, or want of memory, and
@@ -45,5 +52,6 @@ pub trait Replay {
         requires { number ≡ length (taken self.old) }
         ensures answer { Answers result (verdict self.old (taken self.old) body.now) }
         ensures taken { taken self.new ≡ taken_after result (taken self.old) body.now }
+        ensures setting { setting self.new ≡ setting self.old }
         ensures verdict { verdict self.new ≡ verdict self.old };
 }

@@ -22,6 +22,10 @@ impl Replay for Keeper {
     ghost use Rattle.std.specs.Prelude.{◌==◌, if◌then◌else◌, map, get_or};
     ghost use Rattle.recovery.specs.Replay.Verdict.{accepted, bad_bytes, not_of_schema};
 
+    ghost Setting = { Unit {0} };
+
+    ghost setting = { λ s. tt };
+
     ghost taken = { λ s. map (λ v. v.items) s.bodies.items };
 
     ghost verdict = { λ s taken body. if get_or body 0 0 == 33 then bad_bytes else (if get_or body 0 0 == 63 then not_of_schema else accepted) };

@@ -93,6 +93,7 @@ fn turn<R: Replay>(
     ensures answer { (c : List ℕ) (generation : ℕ) → IsFile side.now c → Turned result (left (R.verdict replay.old) side.now.limit side.now.second generation c) side.now.second generation gate (R.taken replay.old) (R.taken replay.new) }
     ensures no_disk { result ≡ Err RecoverFault.DiskFault → ⊥ }
     ensures moves { IfOk result (Moved side.now gate (R.taken replay.old) (R.taken replay.new)) }
+    ensures setting { R.setting replay.new ≡ R.setting replay.old }
     ensures verdict { R.verdict replay.new ≡ R.verdict replay.old }
 {
     let place = Place {
@@ -123,6 +124,7 @@ pub(crate) fn walk<R: Replay>(side: &Side, replay: &mut R) -> Result<u64, Recove
     ensures spelled { IfOk result (λ gate. take gate side.now.bytes.items ≡ take 16 side.now.bytes.items ++ flat_map opened (R.taken replay.new)) }
     ensures fits { IfOk result (λ gate. AllByRecursion Fits (R.taken replay.new)) }
     ensures within { IfOk result (λ gate. (16 ≤ gate) × (gate + 1 ≤ side.now.limit) × (gate < side.now.len)) }
+    ensures setting { R.setting replay.new ≡ R.setting replay.old }
     ensures verdict { R.verdict replay.new ≡ R.verdict replay.old }
 {
     let mut gate = 16;

@@ -1,6 +1,7 @@
-use Rattle.std.proofs.Common.{ℕ, ◌+◌, ap, not, ◌∙◌}
+use Rattle.std.proofs.Common.{ℕ, ◌+◌, inl, ap, not, ◌∙◌}
+use Rattle.disk_core.specs.Sides.Always.{once, then as link}
 use Rattle.feature_journal.specs.Kept.{disks_of}
-use Rattle.checkpoints.proofs.Adding.{rest_goes, begun_goes, added_goes, finished_goes, made_is}
+use Rattle.checkpoints.proofs.Adding.{alone_still, rest_goes, begun_goes, added_goes, finished_goes, made_is}
 use Rattle.checkpoints.proofs.compacting.compact.Goals as goal
 
 pub returns-then-generation-eq18446744073709551615-clause-goes :
@@ -37,3 +38,14 @@ returns-in-Ok-finish_side-clause-turned g c =
       turned.2 ∙ made_is g.D.Disk.shown g.D.Disk.moment g.D.Disk.since g.D.Disk.images g.D.Disk.faults c.requires.0 (g.R.RecordSource.left c.args.records.now) c.add_all.new.journal makes,
       turned.3 ∙ more.limit ∙ first.limit,
     )
+
+pub returns-then-generation-eq18446744073709551615-clause-reaches : goal.returns-then-generation-eq18446744073709551615-clause-reaches
+returns-then-generation-eq18446744073709551615-clause-reaches g c bodies rests =
+    inl (alone_still g.D.Disk.moment g.D.Disk.since g.D.Disk.images bodies (g.R.RecordSource.left c.args.records.now) g.met.D.Disk.counts g.met.D.Disk.only c.args.journal.now rests)
+
+pub returns-in-Err-clause-reaches : goal.returns-in-Err-clause-reaches
+returns-in-Err-clause-reaches g c bodies rests = inl (once _ _ (c.begin_side.ensures.goes bodies rests))
+
+pub returns-in-Err-add_all-clause-reaches : goal.returns-in-Err-add_all-clause-reaches
+returns-in-Err-add_all-clause-reaches g c bodies rests =
+    inl (link _ _ _ (c.begin_side.ensures.goes bodies rests) (c.add_all.ensures.goes bodies (c.in-Ok.ensures.begun bodies rests)))

@@ -1,4 +1,4 @@
-use Rattle.std.proofs.Common.{List, ℕ, Some, Ok, sym, subst, ◌∙◌, ◌≡◌}
+use Rattle.std.proofs.Common.{inr, List, ℕ, Some, Ok, sym, subst, ◌∙◌, ◌≡◌}
 use Rattle.feature_journal.specs.Kept.{Rests, seen, disks_of}
 use Rattle.recovery.specs.Outcome.{outcome_of}
 use Rattle.recovery.specs.Looked.{LookedIs, LookedAt}
@@ -51,7 +51,7 @@ returns-in-Ok-Nothing-clause-nothing_err g c =
     let s = c.in-Ok.ensures.same in
     let p = read_of g.D.Disk.shown g.D.Disk.moment g.D.Disk.since g.D.Disk.images c.args.disks c.sync.new.self c.look.new.disks c.in-Ok.ensures.within c.in-Ok.ensures.stable c.in-Ok.ensures.crash s h.ensures.untouched in
     let at = subst (λ l. LookedAt g.D.Disk.shown l c.args.side taken c.sync.new.self) h.field-0-is h.ensures.known in
-    err_map c.start.result _ _ (λ x goes a b is_a is_b un_a un_b. nothing_goes g.D.Disk.shown g.D.Disk.moment g.D.Disk.since g.D.Disk.images g.met.D.Disk.tells c.args.disks c.sync.new.self c.look.new.disks x.0 p a b is_a is_b h.a h.b at.0 un_a un_b goes) c.start.ensures.goes_err
+    err_map c.start.result _ _ (λ x goes a b is_a is_b un_a un_b. inr (nothing_goes g.D.Disk.shown g.D.Disk.moment g.D.Disk.since g.D.Disk.images g.met.D.Disk.tells c.args.disks c.sync.new.self c.look.new.disks x.0 p a b is_a is_b h.a h.b at.0 un_a un_b goes)) c.start.ensures.goes_err
 
 pub returns-in-Ok-Found-clause-gates : goal.returns-in-Ok-Found-clause-gates
 returns-in-Ok-Found-clause-gates g c =
@@ -95,7 +95,7 @@ returns-in-Ok-Found-clause-crash_err g c =
     let outcome = λ (a b : List ℕ) (is_a : g.D.Disk.shown c.args.disks.a ≡ Some a) (is_b : g.D.Disk.shown c.args.disks.b ≡ Some b). subst (λ l. LookedIs (Ok l) (outcome_of judge c.args.side a b) taken) h.field-0-is (h.ensures.answer a b (s.0 ∙ is_a) (s.1 ∙ is_b)) in
     let p = read_of g.D.Disk.shown g.D.Disk.moment g.D.Disk.since g.D.Disk.images c.args.disks c.sync.new.self c.look.new.disks c.in-Ok.ensures.within c.in-Ok.ensures.stable c.in-Ok.ensures.crash s h.ensures.untouched in
     let at = subst (λ l. LookedAt g.D.Disk.shown l c.args.side taken c.sync.new.self) h.field-0-is h.ensures.known in
-    err_map c.take_over.result _ _ (λ x goes a b lists is_a is_b says. tail_goes g.D.Disk.shown g.D.Disk.moment g.D.Disk.since g.D.Disk.images g.met.D.Disk.tells c.args.disks c.sync.new.self c.look.new.disks x.0 p a b is_a is_b judge c.args.side h.found taken lists says at (outcome a b is_a is_b) goes) c.take_over.ensures.goes_err
+    err_map c.take_over.result _ _ (λ x goes a b lists is_a is_b says. inr (tail_goes g.D.Disk.shown g.D.Disk.moment g.D.Disk.since g.D.Disk.images g.met.D.Disk.tells c.args.disks c.sync.new.self c.look.new.disks x.0 p a b is_a is_b judge c.args.side h.found taken lists says at (outcome a b is_a is_b) goes)) c.take_over.ensures.goes_err
 
 pub returns-in-Ok-Found-clause-nothing : goal.returns-in-Ok-Found-clause-nothing
 returns-in-Ok-Found-clause-nothing g c =

@@ -48,6 +48,7 @@ loop-next-preserved g c =
       len_fits = m.len_fits;
       number_is = omega (arith, i.number_is, ap length m.taken, length-append old (m.body ∷ []));
       number_fits = omega (arith, m.later, i.number_fits);
+      setting_is = c.in-Ok-Some.ensures.setting ∙ i.setting_is;
       verdict_is = c.in-Ok-Some.ensures.verdict ∙ i.verdict_is;
       fits = fits_more old new m.body m.taken m.fits i.fits;
       spelled = spelled_more _ _ _ old new m.body m.taken m.spelled i.spelled;

@@ -12,6 +12,7 @@ invariant-loop-next g l = record {
   len_fits : l.gate < l.side.len;
   number_is : l.number ≡ length (g.R.Replay.taken l.replay);
   number_fits : l.number ≤ l.gate;
+  setting_is : g.R.Replay.setting l.replay ≡ g.R.Replay.setting l.fn.replay;
   verdict_is : g.R.Replay.verdict l.replay ≡ g.R.Replay.verdict l.fn.replay;
   fits : AllByRecursion Fits (g.R.Replay.taken l.replay);
   spelled : take l.gate l.side.bytes.items ≡ take 16 l.side.bytes.items ++ flat_map opened (g.R.Replay.taken l.replay);
