@@ -1,6 +1,7 @@
 -- What a step comes to at each of its ends.
 use Rattle.std.proofs.Common.{◌≡◌, ◌⊎◌, inl, inr, ℕ, ◌+◌, ◌≤◌, Bool, true, false, List, [], ◌∷◌, ◌++◌, length, Option, Some, None, Result, Ok, Err, refl, sym, ap, ◌∙◌, subst, arith}
 use Rattle.std.specs.Option.{IfSome, option_to_list}
+use Rattle.std.specs.Prelude.{min}
 use Rattle.disk_core.specs.declared.pair.Pair.{Pair}
 use Rattle.disk_core.specs.Sides.{Always, EveryBoth}
 use Rattle.disk_core.specs.Sides.Always.{once}
@@ -12,6 +13,7 @@ use Rattle.feature_journal.specs.Kept.{disks_of, length_of, limit_of}
 use Rattle.feature_journal.proofs.Pairs.{within_still}
 use Rattle.feature_values.specs.declared.schema.Schema.{Schema}
 use Rattle.wfs_ends.specs.declared.fault.Failed.{Failed}
+use Rattle.wfs_ends.specs.Ends.{last_count}
 use Rattle.wfs_model.specs.declared.change.Change.{Change}
 use Rattle.wfs_model.specs.declared.entry.Entry.{Entry}
 use Rattle.wfs_model.specs.declared.limits.FullAt.{FullAt}
@@ -41,7 +43,7 @@ module _ {D : Type 0} (moment : D → ℕ) (since : D → ℕ → List ℕ → T
     (old mid : Course) (before : Journal D) (bodies : List (List ℕ)) (side : ℕ) (begun : Option Change) (tally : List ℕ) (entry : Entry)
     (is : IsStore images old before bodies side begun) (same : SamePast old mid) where
 
-  was : Held D
+  abbrev pub was : Held D
   was = held_of old before bodies side begun tally
 
   -- the state in memory is the one that the history leaves
@@ -94,6 +96,13 @@ module _ {D : Type 0} (moment : D → ℕ) (since : D → ℕ → List ℕ → T
     count = no_fall;
     cause = λ e. absurd cc;
   }
+
+  -- how long the side is, as the journal tells it
+  pub side_told : (told : ℕ) → told ≡ min (length_of before) last_count → told ≡ length_of before
+  side_told told said =
+      let within = is.within in
+      let most = old.limits.side_within in
+      omega (arith, said, within, most)
 
   -- ---- what was taken up
 
@@ -161,6 +170,19 @@ module _ {D : Type 0} (moment : D → ℕ) (since : D → ℕ → List ℕ → T
             ∙ ap (λ (s : Schema). (step s mid.state.state ready.moment entry.request).0) same.schema
             ∙ ap (λ (s : State). (step old.state.schema s ready.moment entry.request).0) (same.state ∙ now_is)
             ∙ ap (λ (m : ℕ). (step old.state.schema (now_of was) m entry.request).0) moment_is
+
+    -- the body of the copy may be written
+    pub writable_copy : (told : ℕ) (items body : List ℕ) → told ≡ length_of before → body ≡ items
+        → IfSome ready.plan.change (IsWritable old.state.schema (durable old.state.state) told old.limits.side items)
+        → IfSome copy (IsWritable old.state.schema (durable old.state.state) (length_of before) old.limits.side body)
+    writable_copy told items body said shown spelled =
+        let writable = subst (λ (b : List ℕ). IfSome ready.plan.change (IsWritable old.state.schema (durable old.state.state) told old.limits.side b)) (sym shown) spelled in
+        subst (λ (made : Option Change). IfSome made (IsWritable old.state.schema (durable old.state.state) (length_of before) old.limits.side body)) (sym taken.copy_is)
+        (subst (λ (n : ℕ). IfSome ready.plan.change (IsWritable old.state.schema (durable old.state.state) n old.limits.side body)) said writable)
+
+    pub writable_there : (body : List ℕ) → IfSome copy (IsWritable old.state.schema (durable old.state.state) (length_of before) old.limits.side body)
+        → IfSome copy (IsWritable old.state.schema (durable old.state.state) (length_of before) (limit_of before) body)
+    writable_there body writable = subst (λ (n : ℕ). IfSome copy (IsWritable old.state.schema (durable old.state.state) (length_of before) n body)) (sym is.limit) writable
 
     -- by how much the side is longer
     longer_is : (body : List ℕ) (side_now limit : ℕ) → IfSome copy (IsWritable old.state.schema (durable old.state.state) side_now limit body)
