@@ -7,9 +7,11 @@ mod fault;
 mod judging;
 mod readying;
 mod spelling;
+mod starting;
 mod stepping;
 mod store;
 mod writing;
 
+pub use durable_journal::OpenFault;
 pub use fault::StepFault;
 pub use store::{Store, stands};
