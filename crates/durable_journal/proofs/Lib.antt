@@ -1,0 +1,7 @@
+pub mod Holding
+pub mod Checkpointed
+pub mod Saying
+pub mod Changing
+pub mod Shorter
+pub mod Openings
+pub mod Looks
