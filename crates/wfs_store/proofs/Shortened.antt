@@ -15,10 +15,11 @@ use Rattle.feature_journal.specs.Faults.{NoneFell, OneRose}
 use Rattle.feature_journal.specs.Kept.{SameSide, disks_of, length_of, limit_of}
 use Rattle.feature_journal.proofs.Knowing.{within_more, always_more}
 use Rattle.feature_values.specs.declared.schema.Schema.{Schema}
-use Rattle.wfs_ends.specs.Ends.{last_count}
+use Rattle.wfs_ends.specs.Ends.{last_count, Rose}
 use Rattle.wfs_model.specs.declared.change.Change.{Change}
 use Rattle.wfs_model.specs.declared.entry.Entry.{Entry}
 use Rattle.wfs_model.specs.declared.limits.FullAt.{FullAt}
+use Rattle.wfs_model.specs.declared.limits.Limits.{Limits}
 use Rattle.wfs_model.specs.declared.limits.LimitName.TheVariants.{Side}
 use Rattle.wfs_model.specs.Played.{accepted}
 use Rattle.wfs_model.specs.State.{Durable, State, durable}
@@ -33,6 +34,61 @@ use Rattle.wfs_store.specs.Kept.{IsStore, body_length, length_after, opening_on,
 with_more : (schema : Schema) (kept : Durable) (begun : Option Change) (x y : List ℕ) → SaysKept schema kept x y → SaysWith schema kept begun x y
 with_more schema kept None x y says = says
 with_more schema kept (Some change) x y says = inl says
+
+-- one call after the other
+pub same_on : {D : Type 0} (a b c : Journal D) → SameSide a b → SameSide b c → SameSide a c
+same_on a b c first second = record {
+  second = second.second ∙ first.second;
+  generation = second.generation ∙ first.generation;
+  length = second.length ∙ first.length;
+  limit = second.limit ∙ first.limit;
+}
+
+same_fault : (fault : StepFault) → (let r : Result (Unit {0}) StepFault = Err fault in r) ≡ Err StoreFault → fault ≡ StoreFault
+same_fault fault is = cc
+
+rose_behind : (a b c : ℕ) → a ≤ b → Rose b c → Rose a c
+rose_behind a b c le rose = omega (arith, le, rose)
+
+rose_on : {D : Type 0} (faults : D → ℕ) (a b c : Pair D) → NoneFell faults a b → OneRose faults b c → OneRose faults a c
+rose_on faults a b c fell (inl rose) = inl (rose_behind (faults a.a) (faults b.a) (faults c.a) fell.0 rose)
+rose_on faults a b c fell (inr rose) = inr (rose_behind (faults a.b) (faults b.b) (faults c.b) fell.1 rose)
+
+disk_fault : (fault : CompactFault) → from_compaction fault ≡ StoreFault → fault ≡ compacting.DiskFault
+disk_fault compacting.DiskFault is = refl
+disk_fault (compacting.Full sum) is = absurd cc
+disk_fault compacting.OutOfMemory is = absurd cc
+
+-- a store fault comes where a disk failed in the first call or in the second
+pub rose_then : {D : Type 0} (faults : D → ℕ) (a b c : Pair D) (fault : CompactFault) → NoneFell faults a b
+    → ((let r : Result (Unit {0}) CompactFault = Err fault in r) ≡ Err compacting.DiskFault → OneRose faults b c)
+    → from_compaction fault ≡ StoreFault → OneRose faults a c
+rose_then faults a b c fault fell rose is = rose_on faults a b c fell (rose (ap (λ (f : CompactFault). let r : Result (Unit {0}) CompactFault = Err f in r) (disk_fault fault is)))
+
+-- what is full is told of the checkpoint, by what features keep
+pub full_told : (generation limit most : ℕ) (told bodies : List (List ℕ)) (fault : CompactFault) → limit ≡ most → told ≡ bodies
+    → ((sum : ℕ) → (let r : Result (Unit {0}) CompactFault = Err fault in r) ≡ Err (compacting.Full sum) → ((generation ≡ last_count) × (sum ≡ last_count)) ⊎ Passes limit sum told)
+    → (sum : ℕ) → fault ≡ compacting.Full sum → (sum ≡ last_count) ⊎ Passes most sum bodies
+full_told generation limit most told bodies fault limit_is told_is full sum is =
+    ⊎_elim (λ last. inl last.1) (λ passes. inr (subst (λ (b : List (List ℕ)). Passes most sum b) told_is (subst (λ (n : ℕ). Passes n sum told) limit_is passes)))
+    (full sum (ap (λ (f : CompactFault). let r : Result (Unit {0}) CompactFault = Err f in r) is))
+
+-- nothing is begun then, whatever a checkpoint that was not made left
+pub either_none : {A B : Type 0} → A ⊎ (B × A) → A
+either_none (inl a) = a
+either_none (inr both) = both.1
+
+-- how long a side is that keeps what it says, within the limit
+pub side_shown : {D : Type 0} (images : D → List ℕ → Type 0) (schema : Schema) (kept : Durable) (journal : Journal D) (limits : Limits) (told : ℕ)
+    → Keeps images schema kept None journal → limit_of journal ≡ limits.side → told ≡ min (length_of journal) last_count → told ≡ length_of journal
+side_shown images schema kept journal limits told (inl rest) limit said =
+    let within = rest.rests.within in
+    let most = limits.side_within in
+    omega (arith, limit, said, within, most)
+side_shown images schema kept journal limits told (inr begun) limit said =
+    let within = begun.began.within in
+    let most = limits.side_within in
+    omega (arith, limit, said, within, most)
 
 module _ {D : Type 0} (moment : D → ℕ) (since : D → ℕ → List ℕ → Type 0) (images : D → List ℕ → Type 0) (faults : D → ℕ)
     (course : Course) (before : Journal D) (bodies : List (List ℕ)) (side : ℕ) (begun : Option Change) (tally : List ℕ)
@@ -133,7 +189,7 @@ module _ {D : Type 0} (moment : D → ℕ) (since : D → ℕ → List ℕ → T
     full = full_is fault full;
     goes = both_go mid after first second;
     count = fell_on (disks_of before) (disks_of mid) (disks_of after) fell fell_then;
-    cause = λ e. rose cc;
+    cause = λ e. rose (same_fault (from_compaction fault) e);
   }
 
   pub done_shorter : (mid after : Journal D) (told : ℕ)

@@ -13,6 +13,7 @@ use Rattle.wfs_ends.specs.Ends.{last_count}
 use Rattle.wfs_model.specs.declared.entry.Entry.{Entry}
 use Rattle.wfs_model.specs.Kept.{IsKept}
 use Rattle.wfs_model.specs.OfSchema.{IsOfSchema}
+use Rattle.wfs_model.specs.Playable.{most_number}
 use Rattle.wfs_model.specs.Played.{played_one}
 use Rattle.wfs_model.specs.State.{Durable, State, durable, opened}
 use Rattle.wfs_store.specs.declared.course.Course.{Course}
@@ -34,6 +35,10 @@ kept_next schema kept well = record {
 pub next_opened : (kept : Durable) → opened (played_one kept (next_opening kept)) (played_one kept (next_opening kept)).opening ≡ next_of kept
 unfolding played_one
 next_opened kept = refl
+
+pub next_numbers : (kept : Durable) → All (λ n. n ≤ most_number) kept.counters → All (λ n. n ≤ most_number) (played_one kept (next_opening kept)).counters
+unfolding played_one
+next_numbers kept numbers = numbers
 
 next_kept : (kept : Durable) → played_one kept (next_opening kept) ≡ durable (next_of kept)
 unfolding played_one

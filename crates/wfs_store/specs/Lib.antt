@@ -1,3 +1,4 @@
+pub mod Compacted
 pub mod Held
 pub mod Judged
 pub mod Kept

@@ -1,6 +1,6 @@
 //! The store: its steps, and what it tells.
 
-ghost use Rattle.std.specs.Prelude.{◌≡◌, ◌≤◌, All, IfOk, length};
+ghost use Rattle.std.specs.Prelude.{◌≡◌, ◌≤◌, [], All, IfOk, length};
 ghost use Rattle.std.specs.Option.{option_map};
 ghost use Rattle.disk_core.specs.Sides.{EveryBoth};
 ghost use Rattle.durable_journal.specs.Standing.{SaysWith};
@@ -9,12 +9,14 @@ ghost use Rattle.wfs_model.specs.Changing.{IsChange};
 ghost use Rattle.wfs_model.specs.OfSchema.{IsOfSchema, stored_in};
 ghost use Rattle.wfs_model.specs.Read.{read};
 ghost use Rattle.wfs_model.specs.State.{clamped};
+ghost use Rattle.wfs_store.specs.Compacted.{IsCompactionOf};
 ghost use Rattle.wfs_store.specs.Held.{kept_of};
 ghost use Rattle.wfs_store.specs.Kept.{length_after};
 ghost use Rattle.wfs_store.specs.Past.{last_made};
 ghost use Rattle.wfs_store.specs.Stepped.{IsStepOf};
 
 use crate::StepFault;
+use crate::compacting::make_shorter;
 use crate::course::Course;
 use crate::stepping::take_step;
 use disk_core::{Disk, Pair};
@@ -118,6 +120,24 @@ impl<D: Disk> Store<D> {
         ensures { result ≡ length_after self.now.schema self.now.side self.now.opening self.now.entries }
     {
         self.journal.side_length()
+    }
+
+    /// Makes the journal just a checkpoint of what is kept, where there is no history yet. It ends first what a fault left begun.
+    ///
+    /// # Errors
+    ///
+    /// `StoreFault`, only where a disk failed. `Full`, which names the side: the length of the checkpoint passes its limit, or the
+    /// generation is the last one. `OutOfMemory`.
+    pub fn compact(&mut self) -> Result<(), StepFault>
+        requires { self.old.entries ≡ [] }
+        ensures { IsCompactionOf D.moment D.since D.faults self.old result self.new }
+    {
+        make_shorter(
+            &self.course,
+            &mut self.journal,
+            &mut self.begun,
+            &mut self.side,
+        )
     }
 
     /// The two disks. It takes no memory.
