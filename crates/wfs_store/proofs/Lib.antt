@@ -1,0 +1,9 @@
+pub mod Courses
+pub mod Ends
+pub mod Histories
+pub mod Limits
+pub mod Recordable
+pub mod Short
+pub mod Shortened
+pub mod Starts
+pub mod Verdicts

@@ -1,0 +1,54 @@
+//! Why a step came to nothing.
+
+use service_state::PrepareFault;
+use std::alloc::AllocError;
+use wfs_ends::OutOfMemory;
+use wfs_model::FullAt;
+
+/// A step came to nothing: state and history are as before.
+#[derive(Clone, Copy, Debug, PartialEq, Eq)]
+pub enum StepFault {
+    /// A disk failed while the step's change was written. A crash may leave the change made, or the one that was begun before; the next
+    /// step that has a change ends what is begun.
+    StoreFault,
+    /// The entry would pass a limit: this one first.
+    Full(FullAt),
+    /// Memory ran out, before any disk was asked.
+    OutOfMemory,
+}
+
+impl From<OutOfMemory> for StepFault {
+    ghost use Rattle.std.specs.Prelude.{◌≡◌};
+    ghost use Rattle.wfs_store.specs.declared.fault.StepFault.TheVariants.{OutOfMemory};
+
+    ghost from_gives = { λ _ e. e ≡ OutOfMemory };
+
+    fn from(_: OutOfMemory) -> Self {
+        StepFault::OutOfMemory
+    }
+}
+
+impl From<AllocError> for StepFault {
+    ghost use Rattle.std.specs.Prelude.{◌≡◌};
+    ghost use Rattle.wfs_store.specs.declared.fault.StepFault.TheVariants.{OutOfMemory};
+
+    ghost from_gives = { λ _ e. e ≡ OutOfMemory };
+
+    fn from(_: AllocError) -> Self {
+        StepFault::OutOfMemory
+    }
+}
+
+impl From<PrepareFault> for StepFault {
+    ghost use Rattle.std.specs.Prelude.{◌≡◌};
+    ghost use Rattle.wfs_store.specs.Judged.{same_fault};
+
+    ghost from_gives = { λ fault found. found ≡ same_fault fault };
+
+    fn from(fault: PrepareFault) -> Self {
+        match fault {
+            PrepareFault::Full(at) => StepFault::Full(at),
+            PrepareFault::OutOfMemory => StepFault::OutOfMemory,
+        }
+    }
+}
