@@ -5,7 +5,6 @@ use std::alloc::Global;
 use wfs_ends::{ListClock, Mem, MemSink, MemSource};
 
 mod queries;
-mod served;
 mod sessions;
 
 const SCHEMA: &str =
@@ -163,15 +162,6 @@ fn run(
 ) -> Mem<End> {
     let mut input = source(alloc, input, failing)?;
     run_over(alloc, words, schema, &mut input, out)
-}
-
-// Runs a session over an input, with this clock.
-fn run_during(alloc: Global, input: &str, clock: &mut ListClock, out: &mut MemSink) -> Mem<End> {
-    let words = words_of(alloc, &["talk", "d"])?;
-    let mut schema = source(alloc, SCHEMA, &[])?;
-    let mut input = source(alloc, input, &[])?;
-    let done = wfsd(alloc, &words, &mut schema, &mut input, out, clock);
-    Ok(end_of(&done))
 }
 
 // An output with this room.
