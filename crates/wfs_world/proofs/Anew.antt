@@ -1,8 +1,6 @@
 -- One step more of what is played or stepped again.
-use Rattle.std.proofs.Common.{◌≡◌, ℕ, ◌+◌, ◌<◌, ◌≤◌, List, [], ◌∷◌, ◌++◌, length, get_or, take, drop, Result, Ok, refl, sym, ap, ◌∙◌, subst, arith}
-use Rattle.std.specs.Prelude.{min, max}
-use Rattle.std.specs.List.{fold}
-use Rattle.std.proofs.lemmas.List.{take_more, take_all, at_drop_more}
+use Rattle.std.proofs.Common.{◌≡◌, ℕ, ◌+◌, ◌<◌, ◌≤◌, List, [], ◌∷◌, length, get_or, take, drop, refl, sym, ap, ◌∙◌, subst, arith}
+use Rattle.std.proofs.lemmas.List.{take_more, at_drop_more}
 use Rattle.std.proofs.lemmas.List.Sums.{fold-append}
 use Rattle.feature_values.specs.declared.schema.Schema.{Schema}
 use Rattle.wfs_model.specs.declared.change.Change.{Change}

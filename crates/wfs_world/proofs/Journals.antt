@@ -1,5 +1,5 @@
 -- What the changes of steps leave of what a journal keeps.
-use Rattle.std.proofs.Common.{◌≡◌, ℕ, ◌+◌, ◌<◌, ◌≤◌, ◌⊎◌, inl, inr, Bool, true, false, List, [], ◌∷◌, ◌++◌, length, take, Option, Some, None, Result, Ok, Err, refl, sym, ap, ◌∙◌, subst, arith, length-append}
+use Rattle.std.proofs.Common.{◌≡◌, ℕ, ◌<◌, ◌≤◌, ◌⊎◌, inl, inr, Bool, true, false, List, [], ◌∷◌, ◌++◌, length, take, Option, Some, None, Result, Ok, Err, refl, sym, ap, ◌∙◌, subst, arith, length-append}
 use Rattle.std.specs.Prelude.{◌==◌, if◌then◌else◌, ⊤}
 use Rattle.std.specs.List.{fold}
 use Rattle.std.specs.Option.{option_to_list}
@@ -7,9 +7,6 @@ use Rattle.std.proofs.lemmas.Bool.{cases_lt}
 use Rattle.std.proofs.lemmas.List.{take-append-le, take_all}
 use Rattle.std.proofs.lemmas.List.Sums.{fold-append}
 use Rattle.feature_values.specs.declared.schema.Schema.{Schema}
-use Rattle.lock_table.specs.declared.id.LockId.{LockId}
-use Rattle.lock_table.specs.declared.words.Release.{Release}
-use Rattle.wfs_model.specs.declared.action.Action.{Action}
 use Rattle.wfs_model.specs.declared.change.Part.{Part}
 use Rattle.wfs_model.specs.declared.change.Part.TheVariants.{Put, Remove}
 use Rattle.wfs_model.specs.declared.change.Change.{Change}
@@ -20,7 +17,7 @@ use Rattle.wfs_model.specs.declared.request.Request.TheVariants.{Capabilities, D
 use Rattle.wfs_model.specs.Kept.{IsKept}
 use Rattle.wfs_model.specs.OfSchema.{IsOfSchema}
 use Rattle.wfs_model.specs.Plans.{Planning}
-use Rattle.wfs_model.specs.Played.{rows_of, rows_if, if_accepted, change_of, part_played, played_one, played}
+use Rattle.wfs_model.specs.Played.{rows_if, if_accepted, change_of, part_played, played_one, played}
 use Rattle.wfs_model.specs.State.{State, Durable, durable}
 use Rattle.wfs_model.specs.Step.{plan_of, step}
 use Rattle.wfs_model.specs.Stored.{created, dropped}

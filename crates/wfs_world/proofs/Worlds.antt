@@ -1,21 +1,20 @@
 -- Each event leaves a world well that was so.
-use Rattle.std.proofs.Common.{◌≡◌, ℕ, ◌+◌, ◌<◌, ◌≤◌, Bool, true, false, List, [], ◌∷◌, ◌++◌, length, replicate, take, All, Option, Some, None, refl, sym, ap, ◌∙◌, subst, set, append_assoc, length-set, arith}
-use Rattle.std.specs.Prelude.{◌==◌, if◌then◌else◌, is_some, max, min, ⊤}
+use Rattle.std.proofs.Common.{◌≡◌, ℕ, ◌+◌, ◌≤◌, Bool, true, false, List, [], ◌∷◌, ◌++◌, length, take, All, Option, Some, None, refl, sym, ap, ◌∙◌, subst, set, append_assoc, length-set, arith}
+use Rattle.std.specs.Prelude.{◌==◌, if◌then◌else◌, is_some}
 use Rattle.std.specs.Option.{option_to_list, IfSome}
 use Rattle.std.proofs.lemmas.Bool.{true≢false}
 use Rattle.std.proofs.Math.Seq.{take-append_seam}
 use Rattle.std.proofs.lemmas.List.{length-replicate, length_push}
-use Rattle.std.proofs.lemmas.List.Elements.{All-nil, All-cons, All-head, All-tail, All-weaker, All-push, All-set, All-replicate}
+use Rattle.std.proofs.lemmas.List.Elements.{All-nil, All-head, All-tail, All-weaker, All-push, All-set, All-replicate}
 use Rattle.feature_values.specs.declared.schema.Schema.{Schema}
 use Rattle.wfs_model.specs.declared.change.Change.{Change}
 use Rattle.wfs_model.specs.declared.entry.Entry.{Entry}
-use Rattle.wfs_model.specs.declared.request.Request.{Request}
 use Rattle.wfs_model.specs.Changing.{IsChange}
 use Rattle.wfs_model.specs.History.{stepped, after_all, timed}
 use Rattle.wfs_model.specs.Kept.{IsKept}
 use Rattle.wfs_model.specs.OfSchema.{IsOfSchema}
 use Rattle.wfs_model.specs.Played.{accepted, played, played_one}
-use Rattle.wfs_model.specs.State.{State, Durable, durable, clamped, last_moment, moment_in}
+use Rattle.wfs_model.specs.State.{State, durable, last_moment, moment_in}
 use Rattle.wfs_model.proofs.Middle.{append_none}
 use Rattle.wfs_model.proofs.Refusing.{step_moment}
 use Rattle.wfs_world.specs.declared.event.Event.{Event}
@@ -28,7 +27,7 @@ use Rattle.wfs_world.specs.declared.turn.Turn.{Turn}
 use Rattle.wfs_world.specs.Events.{IsFirst, IsOutcome, MayPut, MayEnter, MayLeave, MayHappen, taken, stage_after, added, begun_after, put, entered, crashed, happened, IsEventOf}
 use Rattle.wfs_world.specs.Kept.{ArePlayed, AreSteps, IsStageOf, IsUp, IsWell}
 use Rattle.wfs_world.specs.Scene.{Scene, kept_by, opened_on, opening_of, state_of, change_in, stage_in, stage_of}
-use Rattle.wfs_world.specs.Sound.{told, pending_at, pending_in, pending, IsSound}
+use Rattle.wfs_world.specs.Sound.{told, pending_at, pending_in, pending}
 use Rattle.wfs_world.proofs.Histories.{after_more, accepted_more, IsStep, steps_more, legal_steps}
 use Rattle.wfs_world.proofs.Journals.{under, step_same, change_keeps, kept_more, all_played, played_more}
 

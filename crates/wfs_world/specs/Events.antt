@@ -6,8 +6,6 @@ use Rattle.std.specs.Option.{option_to_list}
 use Rattle.feature_values.specs.declared.schema.Schema.{Schema}
 use Rattle.wfs_model.specs.declared.change.Change.{Change}
 use Rattle.wfs_model.specs.declared.entry.Entry.{Entry}
-use Rattle.wfs_model.specs.declared.reply.Reply.{Reply}
-use Rattle.wfs_model.specs.declared.request.Request.{Request}
 use Rattle.wfs_model.specs.Changing.{IsChange}
 use Rattle.wfs_model.specs.History.{after, timed, reply_after}
 use Rattle.wfs_model.specs.OfSchema.{IsOfSchema}
@@ -21,7 +19,6 @@ use Rattle.wfs_world.specs.declared.event.Seen.{Seen}
 use Rattle.wfs_world.specs.declared.event.Seen.TheVariants.{Nothing, Answer, Fault, Reopened}
 use Rattle.wfs_world.specs.declared.turn.Stage.{Stage}
 use Rattle.wfs_world.specs.declared.turn.Stage.TheVariants.{Taken, Put as IsPut, Faulted, Entered}
-use Rattle.wfs_world.specs.declared.turn.Turn.{Turn}
 use Rattle.wfs_world.specs.Scene.{Scene, opened_on, opening_of, state_of, change_in, stage_of}
 
 -- ---- when an event may happen

@@ -1,10 +1,10 @@
 -- How calls answer events.
-use Rattle.std.specs.Prelude.{◌≡◌, ℕ, ◌<◌, List, length, take, slice_get, Some, Result, Ok, Err, IfOk, OnOk, OnErr}
+use Rattle.std.specs.Prelude.{◌≡◌, ℕ, ◌<◌, List, length, take, slice_get, Some, Result, Err, IfOk, OnOk, OnErr}
 use Rattle.wfs_world.specs.declared.event.Event.{Event}
 use Rattle.wfs_world.specs.declared.event.Seen.{Seen}
 use Rattle.wfs_world.specs.declared.event.WorldFault.{WorldFault}
 use Rattle.wfs_world.specs.declared.event.WorldFault.TheVariants.{NotNow}
-use Rattle.wfs_world.specs.Events.{MayHappen, happened, seen, MayAllHappen, all_happened, all_seen}
+use Rattle.wfs_world.specs.Events.{MayHappen, happened, seen, MayAllHappen, all_happened}
 use Rattle.wfs_world.specs.Scene.{Scene}
 
 -- An event happens, or it may not, or memory ran out, and then nothing is changed.

@@ -1,6 +1,5 @@
 use Rattle.std.proofs.Common.{◌≡◌, take}
 use Rattle.wfs_model.specs.State.{durable}
-use Rattle.wfs_world.specs.Kept.{ArePlayed}
 use Rattle.wfs_world.specs.Scene.{kept_by}
 use Rattle.wfs_world.proofs.replaying.open_on.Given as goal
 

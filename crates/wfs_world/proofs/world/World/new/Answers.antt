@@ -1,4 +1,3 @@
-use Rattle.std.proofs.Common.{ap, ◌∙◌}
 use Rattle.wfs_world.proofs.Answering.{begins}
 use Rattle.wfs_world.proofs.world.World.new.Goals as goal
 
