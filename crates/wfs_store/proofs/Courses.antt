@@ -1,6 +1,5 @@
 -- What stands in memory and in the journal, after what a step does to them.
-use Rattle.std.proofs.Common.{◌≡◌, ℕ, ◌+◌, ◌≤◌, List, [], ◌∷◌, ◌++◌, length, Option, Some, None, refl, sym, ap, ◌∙◌, subst, arith}
-use Rattle.std.specs.Option.{IfSome, option_to_list}
+use Rattle.std.proofs.Common.{◌≡◌, ℕ, ◌+◌, ◌≤◌, List, [], ◌∷◌, ◌++◌, Option, sym, subst}
 use Rattle.durable_journal.specs.Kept.{Keeps}
 use Rattle.feature_journal.specs.declared.journal.Journal.{Journal}
 use Rattle.feature_journal.specs.Kept.{length_of, limit_of}
@@ -9,12 +8,11 @@ use Rattle.wfs_model.specs.declared.change.Change.{Change}
 use Rattle.wfs_model.specs.declared.entry.Entry.{Entry}
 use Rattle.wfs_model.specs.Changing.{IsChange}
 use Rattle.wfs_model.specs.OfSchema.{IsOfSchema}
-use Rattle.wfs_model.specs.Played.{accepted, change_of}
+use Rattle.wfs_model.specs.Played.{change_of}
 use Rattle.wfs_model.specs.Step.{step}
 use Rattle.wfs_model.specs.State.{State, durable}
 use Rattle.wfs_store.specs.declared.course.Course.{Course}
-use Rattle.wfs_store.specs.Kept.{IsCourse, IsStore, body_length, length_after, opening_on}
-use Rattle.wfs_store.specs.Past.{IsPast}
+use Rattle.wfs_store.specs.Kept.{IsCourse, IsStore, opening_on}
 use Rattle.wfs_store.specs.Ready.{SamePast}
 use Rattle.wfs_store.proofs.Histories.{past_more}
 

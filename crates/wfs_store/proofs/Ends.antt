@@ -1,5 +1,5 @@
 -- What a step comes to at each of its ends.
-use Rattle.std.proofs.Common.{◌≡◌, ◌⊎◌, inl, inr, ℕ, ◌+◌, ◌≤◌, Bool, true, false, List, [], ◌∷◌, ◌++◌, length, Option, Some, None, Result, Ok, Err, refl, sym, ap, ◌∙◌, subst, arith}
+use Rattle.std.proofs.Common.{◌≡◌, inl, ℕ, ◌+◌, ◌≤◌, List, [], ◌∷◌, ◌++◌, length, Option, Some, None, Ok, Err, refl, sym, ap, ◌∙◌, subst, arith}
 use Rattle.std.specs.Option.{IfSome, option_to_list}
 use Rattle.std.specs.Prelude.{min}
 use Rattle.disk_core.specs.declared.pair.Pair.{Pair}
@@ -12,16 +12,14 @@ use Rattle.feature_journal.specs.Faults.{NoneFell, OneRose}
 use Rattle.feature_journal.specs.Kept.{disks_of, length_of, limit_of}
 use Rattle.feature_journal.proofs.Pairs.{within_still}
 use Rattle.feature_values.specs.declared.schema.Schema.{Schema}
-use Rattle.wfs_ends.specs.declared.fault.Failed.{Failed}
 use Rattle.wfs_ends.specs.Ends.{last_count}
 use Rattle.wfs_model.specs.declared.change.Change.{Change}
 use Rattle.wfs_model.specs.declared.entry.Entry.{Entry}
-use Rattle.wfs_model.specs.declared.limits.FullAt.{FullAt}
 use Rattle.wfs_model.specs.declared.reply.Reply.{Reply}
 use Rattle.wfs_model.specs.Full.{full_at}
-use Rattle.wfs_model.specs.History.{after_all, timed}
-use Rattle.wfs_model.specs.Played.{accepted, change_of, played}
-use Rattle.wfs_model.specs.State.{Durable, State, durable, moment_in}
+use Rattle.wfs_model.specs.History.{timed}
+use Rattle.wfs_model.specs.Played.{change_of, played}
+use Rattle.wfs_model.specs.State.{State, durable, moment_in}
 use Rattle.wfs_model.specs.Step.{step}
 use Rattle.wfs_store.specs.declared.course.Course.{Course}
 use Rattle.wfs_store.specs.declared.course.Ready.{Ready}
@@ -32,8 +30,7 @@ use Rattle.wfs_store.specs.Judged.{IsFaultOf, added_by}
 use Rattle.wfs_store.specs.Kept.{IsCourse, IsStore, body_length, length_after, opening_on, held_of}
 use Rattle.wfs_store.specs.Ready.{IsTaken, IsWritable, SamePast}
 use Rattle.wfs_store.specs.Stepped.{taken_up, full_for, change_by, SameOpening, IsStepOf, one_more}
-use Rattle.wfs_store.specs.Written.{begun_after, WasLeft, IsWritten, longer_by}
-use Rattle.wfs_store.proofs.Courses.{same_course, store_stays}
+use Rattle.wfs_store.specs.Written.{begun_after, WasLeft, longer_by}
 use Rattle.wfs_store.proofs.Histories.{longer_with}
 use Rattle.wfs_store.proofs.Verdicts.{full_in}
 use Rattle.wfs_store.proofs.Recordable.{kept_after}
@@ -42,7 +39,6 @@ module _ {D : Type 0} (moment : D → ℕ) (since : D → ℕ → List ℕ → T
     (counts : (d : D) (t : ℕ) (c : List ℕ) → t ≤ moment d → images d c → since d t c) (only : (d : D) (c : List ℕ) → since d (moment d) c → images d c)
     (old mid : Course) (before : Journal D) (bodies : List (List ℕ)) (side : ℕ) (begun : Option Change) (tally : List ℕ) (entry : Entry)
     (is : IsStore images old before bodies side begun) (same : SamePast old mid) where
-
   abbrev pub was : Held D
   was = held_of old before bodies side begun tally
 
@@ -216,18 +212,18 @@ module _ {D : Type 0} (moment : D → ℕ) (since : D → ℕ → List ℕ → T
         let schema_is : new.state.schema ≡ old.state.schema = schema ∙ same.schema in
         let limits_is : new.limits ≡ old.limits = limits ∙ same.limits in
         let state_is : new.state.state ≡ (step old.state.schema old.state.state ready.moment entry.request).1 =
-            ap (λ (d : Reply × State). d.1) stepped ∙ ap (λ (s : Schema). (step s mid.state.state ready.moment entry.request).1) same.schema
-            ∙ ap (λ (s : State). (step old.state.schema s ready.moment entry.request).1) same.state in
+        ap (λ (d : Reply × State). d.1) stepped ∙ ap (λ (s : Schema). (step s mid.state.state ready.moment entry.request).1) same.schema
+        ∙ ap (λ (s : State). (step old.state.schema s ready.moment entry.request).1) same.state in
         let kept_is : durable new.state.state ≡ played (durable old.state.state) (option_to_list copy) =
-            ap durable state_is ∙ kept_after old.state.schema old.state.state ready.moment entry.request ready.plan taken.plan
-            ∙ ap (λ (c : Option Change). played (durable old.state.state) (option_to_list c)) (sym taken.copy_is) in
+        ap durable state_is ∙ kept_after old.state.schema old.state.state ready.moment entry.request ready.plan taken.plan
+        ∙ ap (λ (c : Option Change). played (durable old.state.state) (option_to_list c)) (sym taken.copy_is) in
         let entries_is : new.history.items ≡ old.history.items ++ taken_up was entry ∷ [] =
-            entries ∙ ap (λ (l : List Entry). l ++ record entry { moment = ready.moment } ∷ []) same.entries ∙ ap (λ (e : Entry). old.history.items ++ e ∷ []) taken_is in
+        entries ∙ ap (λ (l : List Entry). l ++ record entry { moment = ready.moment } ∷ []) same.entries ∙ ap (λ (e : Entry). old.history.items ++ e ∷ []) taken_is in
         let longer : longer_by copy body ≡ added_by (body_length old.state.schema) (option_to_list (change_by was entry)) =
-            longer_is body (length_of before) old.limits.side writable ∙ ap (λ (c : Option Change). added_by (body_length old.state.schema) (option_to_list c)) copy_by in
+        longer_is body (length_of before) old.limits.side writable ∙ ap (λ (c : Option Change). added_by (body_length old.state.schema) (option_to_list c)) copy_by in
         let after_is : length_after old.state.schema side (opening_on old.state.schema bodies) (old.history.items ++ taken_up was entry ∷ [])
-            ≡ length_after old.state.schema side (opening_on old.state.schema bodies) old.history.items + added_by (body_length old.state.schema) (option_to_list (change_by was entry)) =
-            longer_with (body_length old.state.schema) old.state.schema side (opening_on old.state.schema bodies) old.history.items (taken_up was entry) in
+        ≡ length_after old.state.schema side (opening_on old.state.schema bodies) old.history.items + added_by (body_length old.state.schema) (option_to_list (change_by was entry)) =
+        longer_with (body_length old.state.schema) old.state.schema side (opening_on old.state.schema bodies) old.history.items (taken_up was entry) in
         let old_length = is.length in
         let fits : length_of before + longer_by copy body ≤ old.limits.side = fits_is body (length_of before) old.limits.side is.within writable in
         record {

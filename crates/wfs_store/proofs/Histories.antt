@@ -1,6 +1,6 @@
 -- One more entry of a history.
-use Rattle.std.proofs.Common.{◌≡◌, ◌⊎◌, ℕ, ◌+◌, ◌≤◌, List, [], ◌∷◌, ◌++◌, length, All, Option, Some, None, refl, sym, ap, ◌∙◌, subst, append_assoc, arith}
-use Rattle.std.specs.List.{fold, sum_by}
+use Rattle.std.proofs.Common.{◌≡◌, ℕ, ◌+◌, ◌≤◌, List, [], ◌∷◌, ◌++◌, All, Option, refl, sym, ap, ◌∙◌, subst, append_assoc, arith}
+use Rattle.std.specs.List.{sum_by}
 use Rattle.std.specs.Option.{option_to_list}
 use Rattle.std.proofs.lemmas.List.Sums.{fold-append, sum_by-append}
 use Rattle.std.proofs.lemmas.List.Elements.{All-nil, All-cons, All-append}
@@ -9,13 +9,12 @@ use Rattle.wfs_model.specs.declared.change.Change.{Change}
 use Rattle.wfs_model.specs.declared.entry.Entry.{Entry}
 use Rattle.wfs_model.specs.Changing.{IsChange}
 use Rattle.wfs_model.specs.History.{IsLegal, after_all, stepped}
-use Rattle.wfs_model.specs.Kept.{IsKept}
 use Rattle.wfs_model.specs.OfSchema.{IsOfSchema}
 use Rattle.wfs_model.specs.Played.{accepted, change_of}
-use Rattle.wfs_model.specs.State.{State, durable}
+use Rattle.wfs_model.specs.State.{State}
 use Rattle.wfs_model.proofs.Keeping.{step_keeps}
 use Rattle.wfs_store.specs.Judged.{added_by}
-use Rattle.wfs_store.specs.Past.{IsHistory, bytes_of, last_made, IsPast}
+use Rattle.wfs_store.specs.Past.{bytes_of, last_made, IsPast}
 
 -- ---- lists
 
@@ -32,7 +31,7 @@ legal_more schema opening (first ∷ entries) entry legal change later =
 
 pub accepted_more : (schema : Schema) (opening : State) (entries : List Entry) (entry : Entry)
     → accepted schema opening (entries ++ entry ∷ [])
-      ≡ accepted schema opening entries ++ option_to_list (change_of schema (after_all schema opening entries) entry.moment entry.request)
+    ≡ accepted schema opening entries ++ option_to_list (change_of schema (after_all schema opening entries) entry.moment entry.request)
 accepted_more schema opening [] entry = refl_right (option_to_list (change_of schema opening entry.moment entry.request))
   where
     refl_right : (changes : List Change) → changes ++ [] ≡ changes
@@ -42,7 +41,7 @@ accepted_more schema opening (first ∷ entries) entry =
     let made : List Change = option_to_list (change_of schema opening first.moment first.request) in
     ap (λ l. made ++ l) (accepted_more schema (stepped schema opening first) entries entry)
     ∙ sym (append_assoc made (accepted schema (stepped schema opening first) entries)
-        (option_to_list (change_of schema (after_all schema (stepped schema opening first) entries) entry.moment entry.request)))
+    (option_to_list (change_of schema (after_all schema (stepped schema opening first) entries) entry.moment entry.request)))
 
 pub last_more : (schema : Schema) (opening : State) (entries : List Entry) (entry : Entry)
     → last_made schema opening (entries ++ entry ∷ []) ≡ change_of schema (after_all schema opening entries) entry.moment entry.request
@@ -56,12 +55,12 @@ bytes_more entries entry = let more = sum_by-append (λ (e : Entry). e.size) ent
 -- what changes add to a side, each its length and what stands around it
 pub added_more : (body : Change → ℕ) (schema : Schema) (opening : State) (entries : List Entry) (entry : Entry)
     → sum_by (λ change. 5 + body change) (accepted schema opening (entries ++ entry ∷ []))
-      ≡ sum_by (λ change. 5 + body change) (accepted schema opening entries)
-        + sum_by (λ change. 5 + body change) (option_to_list (change_of schema (after_all schema opening entries) entry.moment entry.request))
+    ≡ sum_by (λ change. 5 + body change) (accepted schema opening entries)
+    + sum_by (λ change. 5 + body change) (option_to_list (change_of schema (after_all schema opening entries) entry.moment entry.request))
 added_more body schema opening entries entry =
     ap (sum_by (λ change. 5 + body change)) (accepted_more schema opening entries entry)
     ∙ sum_by-append (λ change. 5 + body change) (accepted schema opening entries)
-        (option_to_list (change_of schema (after_all schema opening entries) entry.moment entry.request))
+    (option_to_list (change_of schema (after_all schema opening entries) entry.moment entry.request))
 
 pub fitting_more : (schema : Schema) (entries : List Entry) (entry : Entry)
     → All (λ e. IsOfSchema schema e.request) entries → IsOfSchema schema entry.request → All (λ e. IsOfSchema schema e.request) (entries ++ entry ∷ [])
@@ -90,8 +89,8 @@ past_more schema opening now entries size made entry past change fitting later =
 -- how much longer a side is with one more entry
 pub longer_with : (body : Change → ℕ) (schema : Schema) (start : ℕ) (opening : State) (entries : List Entry) (entry : Entry)
     → start + added_by body (accepted schema opening (entries ++ entry ∷ []))
-      ≡ (start + added_by body (accepted schema opening entries))
-        + added_by body (option_to_list (change_of schema (after_all schema opening entries) entry.moment entry.request))
+    ≡ (start + added_by body (accepted schema opening entries))
+    + added_by body (option_to_list (change_of schema (after_all schema opening entries) entry.moment entry.request))
 longer_with body schema start opening entries entry =
     let more = added_more body schema opening entries entry in
     omega (arith, more)

@@ -1,5 +1,5 @@
 -- The change of a plan may be recorded.
-use Rattle.std.proofs.Common.{◌≡◌, ℕ, Bool, true, false, List, [], ◌∷◌, length, All, Option, Some, None, Result, Ok, Err, refl, sym, ap, ◌∙◌, subst}
+use Rattle.std.proofs.Common.{◌≡◌, ℕ, Bool, true, false, List, length, All, Option, Some, None, Result, Ok, Err, refl, sym, ap, subst}
 use Rattle.std.specs.Prelude.{◌==◌, if◌then◌else◌}
 use Rattle.std.specs.Option.{IfSome, option_to_list}
 use Rattle.feature_values.specs.declared.schema.Schema.{Schema}
@@ -7,7 +7,7 @@ use Rattle.journal_replay.specs.Replayed.{may_stand}
 use Rattle.journal_replay.specs.Written.{HasKeptTexts}
 use Rattle.query_docs.specs.Reading.{IsKeptText}
 use Rattle.request_plans.specs.declared.plan.Plan.{Plan}
-use Rattle.request_plans.specs.Plan.{CanPlay, IsPlan, carried}
+use Rattle.request_plans.specs.Plan.{CanPlay, IsPlan}
 use Rattle.wfs_model.specs.declared.change.Change.{Change}
 use Rattle.wfs_model.specs.declared.change.Change.TheVariants.{Opening, Rows, Created, Dropped, Base}
 use Rattle.wfs_model.specs.declared.change.Part.{Part}
@@ -20,7 +20,7 @@ use Rattle.wfs_model.specs.declared.stored.StoredQuery.{StoredQuery}
 use Rattle.wfs_model.specs.OfSchema.{stored_in}
 use Rattle.wfs_model.specs.Played.{change_of, if_accepted, played, rows_if, rows_of}
 use Rattle.wfs_model.specs.Plans.{Planning}
-use Rattle.wfs_model.specs.State.{Durable, State, durable}
+use Rattle.wfs_model.specs.State.{State, durable}
 use Rattle.wfs_model.specs.Step.{plan_of, step}
 use Rattle.wfs_model.specs.Stored.{created, dropped}
 use Rattle.wfs_model.specs.Playable.{is_playable}

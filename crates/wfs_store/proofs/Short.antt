@@ -1,7 +1,6 @@
 -- The numbers of a change that may be played stand in the bytes that its record has for them.
-use Rattle.std.proofs.Common.{◌≡◌, ℕ, ◌<◌, ◌≤◌, Bool, true, false, List, [], ◌∷◌, length, get_or, All, Option, Some, None, Result, Ok, Err, refl, sym, ap, ◌∙◌, subst, arith}
-use Rattle.std.specs.Prelude.{◌&&◌, ◌==◌, if◌then◌else◌, slice_get, is_some}
-use Rattle.std.specs.List.{fold, find}
+use Rattle.std.proofs.Common.{◌≡◌, ℕ, ◌<◌, ◌≤◌, Bool, true, false, List, [], ◌∷◌, length, All, Option, Some, None, Result, Ok, Err, refl, subst, arith}
+use Rattle.std.specs.Prelude.{◌==◌, if◌then◌else◌, slice_get, is_some}
 use Rattle.std.specs.Option.{IfSome}
 use Rattle.std.proofs.lemmas.Bool.{and_parts}
 use Rattle.std.proofs.lemmas.List.Elements.{All-nil, All-cons, All-get_or, All-head, All-tail}
@@ -102,7 +101,7 @@ short_parts schema kept [] rules well is = All-nil IsShort
 short_parts schema kept (part ∷ parts) rules well is =
     let both = and_parts (is_part schema kept part) (are_parts schema (part_played kept part) parts) is in
     All-cons IsShort part parts (short_part schema kept part rules well both.0)
-        (short_parts schema (part_played kept part) parts rules (part_keeps schema kept part well both.0) both.1)
+    (short_parts schema (part_played kept part) parts rules (part_keeps schema kept part well both.0) both.1)
 
 -- ---- changes
 

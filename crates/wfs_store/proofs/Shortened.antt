@@ -1,5 +1,5 @@
 -- What making the journal shorter comes to at each of its ends.
-use Rattle.std.proofs.Common.{◌≡◌, ◌⊎◌, inl, inr, ⊎_elim, ℕ, ◌+◌, ◌≤◌, List, [], ◌∷◌, length, Option, Some, None, Result, Ok, Err, refl, sym, ap, ◌∙◌, subst, arith}
+use Rattle.std.proofs.Common.{◌≡◌, ◌⊎◌, inl, inr, ⊎_elim, ℕ, ◌≤◌, List, [], Option, Some, None, Result, Ok, Err, refl, ap, ◌∙◌, subst, arith}
 use Rattle.std.specs.Prelude.{min}
 use Rattle.checkpoints.specs.declared.fault.CompactFault.{CompactFault}
 use Rattle.checkpoints.specs.declared.fault.CompactFault.TheVariants as compacting
@@ -13,23 +13,20 @@ use Rattle.durable_journal.specs.Standing.{SaysKept, SaysWith}
 use Rattle.feature_journal.specs.declared.journal.Journal.{Journal}
 use Rattle.feature_journal.specs.Faults.{NoneFell, OneRose}
 use Rattle.feature_journal.specs.Kept.{SameSide, disks_of, length_of, limit_of}
-use Rattle.feature_journal.proofs.Knowing.{within_more, always_more}
+use Rattle.feature_journal.proofs.Knowing.{always_more}
 use Rattle.feature_values.specs.declared.schema.Schema.{Schema}
 use Rattle.wfs_ends.specs.Ends.{last_count, Rose}
 use Rattle.wfs_model.specs.declared.change.Change.{Change}
-use Rattle.wfs_model.specs.declared.entry.Entry.{Entry}
 use Rattle.wfs_model.specs.declared.limits.FullAt.{FullAt}
 use Rattle.wfs_model.specs.declared.limits.Limits.{Limits}
 use Rattle.wfs_model.specs.declared.limits.LimitName.TheVariants.{Side}
-use Rattle.wfs_model.specs.Played.{accepted}
 use Rattle.wfs_model.specs.State.{Durable, State, durable}
 use Rattle.wfs_store.specs.declared.course.Course.{Course}
 use Rattle.wfs_store.specs.declared.fault.StepFault.{StepFault}
 use Rattle.wfs_store.specs.declared.fault.StepFault.TheVariants.{StoreFault, Full, OutOfMemory}
 use Rattle.wfs_store.specs.Compacted.{from_compaction, checkpoint_in, IsFullSide, IsEnded, IsCompactionOf}
 use Rattle.wfs_store.specs.Held.{Held, now_of, kept_of}
-use Rattle.wfs_store.specs.Judged.{added_by}
-use Rattle.wfs_store.specs.Kept.{IsStore, body_length, length_after, opening_on, held_of}
+use Rattle.wfs_store.specs.Kept.{IsStore, held_of}
 
 with_more : (schema : Schema) (kept : Durable) (begun : Option Change) (x y : List ℕ) → SaysKept schema kept x y → SaysWith schema kept begun x y
 with_more schema kept None x y says = says
@@ -93,7 +90,6 @@ side_shown images schema kept journal limits told (inr begun) limit said =
 module _ {D : Type 0} (moment : D → ℕ) (since : D → ℕ → List ℕ → Type 0) (images : D → List ℕ → Type 0) (faults : D → ℕ)
     (course : Course) (before : Journal D) (bodies : List (List ℕ)) (side : ℕ) (begun : Option Change) (tally : List ℕ)
     (empty : course.history.items ≡ []) (is : IsStore images course before bodies side begun) where
-
   abbrev pub was : Held D
   was = held_of course before bodies side begun tally
 
@@ -157,7 +153,7 @@ module _ {D : Type 0} (moment : D → ℕ) (since : D → ℕ → List ℕ → T
   both_go mid after first second =
       goes_with after (link (disks_of before) (disks_of mid) (disks_of after) first
       (always_more moment since (SaysKept course.state.schema (durable course.state.state)) (SaysWith course.state.schema (durable course.state.state) begun) (disks_of mid) (disks_of after)
-        (with_more course.state.schema (durable course.state.state) begun) second))
+      (with_more course.state.schema (durable course.state.state) begun) second))
 
   ended_is : (fault : StepFault) (after : Journal D) → IsEnded was (Err fault) (held_of course after bodies side None tally)
   ended_is StoreFault after = inl refl

@@ -1,8 +1,8 @@
 -- A store begins on what bodies came to.
-use Rattle.std.proofs.Common.{◌≡◌, ◌⊎◌, inl, ℕ, ◌+◌, ◌≤◌, List, [], ◌∷◌, length, All, Option, Some, None, Ok, refl, sym, ap, ◌∙◌, subst, arith}
+use Rattle.std.proofs.Common.{◌≡◌, inl, ℕ, ◌≤◌, List, [], All, None, refl, ap, subst, arith}
 use Rattle.std.specs.Prelude.{min}
 use Rattle.std.proofs.lemmas.List.Elements.{All-nil}
-use Rattle.durable_journal.specs.Kept.{IsAtRest, Keeps}
+use Rattle.durable_journal.specs.Kept.{IsAtRest}
 use Rattle.durable_journal.specs.Standing.{ComeTo, next_opening}
 use Rattle.feature_journal.specs.declared.journal.Journal.{Journal}
 use Rattle.feature_journal.specs.Kept.{length_of, limit_of}
@@ -15,7 +15,7 @@ use Rattle.wfs_model.specs.Kept.{IsKept}
 use Rattle.wfs_model.specs.OfSchema.{IsOfSchema}
 use Rattle.wfs_model.specs.Playable.{most_number}
 use Rattle.wfs_model.specs.Played.{played_one}
-use Rattle.wfs_model.specs.State.{Durable, State, durable, opened}
+use Rattle.wfs_model.specs.State.{Durable, durable, opened}
 use Rattle.wfs_store.specs.declared.course.Course.{Course}
 use Rattle.wfs_store.specs.Kept.{IsStore, next_of, opening_by, opening_on}
 

@@ -1,5 +1,5 @@
 -- Which limit an entry would pass, as the parts of a step judge it.
-use Rattle.std.proofs.Common.{◌≡◌, ℕ, ◌+◌, ◌≤◌, List, length, Option, Some, None, Result, Ok, Err, refl, sym, ap, ◌∙◌, subst}
+use Rattle.std.proofs.Common.{◌≡◌, ℕ, length, Option, None, Err, refl, sym, ap, ◌∙◌, subst}
 use Rattle.std.specs.Option.{option_or}
 use Rattle.request_plans.specs.declared.plan.Plan.{Plan}
 use Rattle.request_plans.specs.Plan.{IsPlan}
@@ -69,7 +69,6 @@ module _ (opening : State) (start : ℕ) (course : Course) (entry : Entry) where
 
     module _ (moment : ℕ) (plan : Plan) (at : moment ≡ moment_in course.state.state entry.moment) (planned : IsPlan course.state.schema course.state.state moment entry.request plan)
         (none : by_count ≡ None) where
-
       pub state_judged : (fault : PrepareFault) → Limited (by_state moment) (Err fault) → IsFaultOf (full_in opening start course entry) (same_fault fault)
       state_judged fault judged = second_judges by_count (by_state moment) _ _ fault (parts moment at) none judged
 

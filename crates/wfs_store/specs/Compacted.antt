@@ -1,5 +1,5 @@
 -- What making the journal shorter comes to.
-use Rattle.std.specs.Prelude.{◌≡◌, ◌⊎◌, ℕ, List, Option, None, Result, Ok, Err}
+use Rattle.std.specs.Prelude.{◌≡◌, ◌⊎◌, ℕ, List, None, Result, Ok, Err}
 use Rattle.checkpoints.specs.declared.fault.CompactFault.{CompactFault}
 use Rattle.checkpoints.specs.declared.fault.CompactFault.TheVariants as compacting
 use Rattle.checkpoints.specs.Length.{side_length, Passes}

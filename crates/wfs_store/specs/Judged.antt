@@ -1,5 +1,5 @@
 -- Which limit an entry would pass, in the order in which a store judges it, and how a call answers that.
-use Rattle.std.specs.Prelude.{◌≡◌, ℕ, ◌+◌, List, [], ⊤, Option, Some, None, Result, Ok, Err}
+use Rattle.std.specs.Prelude.{◌≡◌, ℕ, ◌+◌, List, ⊤, Option, Some, None, Result, Ok, Err}
 use Rattle.std.specs.List.{sum_by}
 use Rattle.std.specs.Option.{option_or, option_to_list}
 use Rattle.service_state.specs.declared.fault.PrepareFault.{PrepareFault}

@@ -1,6 +1,5 @@
 -- What is at hand before a disk is asked: all that a step needs.
 use Rattle.std.specs.Prelude.{◌≡◌, ℕ, ◌+◌, ◌<◌, ◌≤◌, List, length, Option}
-use Rattle.std.specs.Option.{IfSome}
 use Rattle.std.specs.Vec.{vec_len, vec_capacity}
 use Rattle.durable_journal.specs.Recorded.{MayAppend}
 use Rattle.feature_values.specs.declared.schema.Schema.{Schema}

@@ -1,5 +1,5 @@
 -- What a step of a store answers, and what it leaves.
-use Rattle.std.specs.Prelude.{◌≡◌, ◌⊎◌, ℕ, ◌+◌, List, [], ◌∷◌, ◌++◌, get_or, slice_set, min, Option, Some, None, Result, Ok, Err, ⊤}
+use Rattle.std.specs.Prelude.{◌≡◌, ℕ, ◌+◌, List, [], ◌∷◌, ◌++◌, get_or, slice_set, min, Option, Some, None, Result, Ok, Err, ⊤}
 use Rattle.disk_core.specs.Sides.{Always}
 use Rattle.durable_journal.specs.Standing.{SaysEither}
 use Rattle.feature_journal.specs.Faults.{NoneFell, OneRose}

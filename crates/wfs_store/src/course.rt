@@ -1,10 +1,10 @@
 //! What stands in memory of an opening.
 
+use request_plans::Plan;
 use service_state::ServiceState;
 use std::alloc::Global;
 use wfs_ends::Text;
 use wfs_model::{Change, Entry, Limits};
-use request_plans::Plan;
 
 /// What stands in memory of an opening: its history, and the state that it leaves.
 #[derive(Drop)]

@@ -6,7 +6,12 @@ ghost use Rattle.wfs_store.specs.Judged.{passed_by_count};
 use wfs_model::{FullAt, LimitName, Limits};
 
 /// The limit that one more entry of this size would pass, where there are so many entries of so many bytes.
-pub(crate) fn passed_by_count(limits: &Limits, count: usize, bytes: u64, size: u32) -> Option<FullAt>
+pub(crate) fn passed_by_count(
+    limits: &Limits,
+    count: usize,
+    bytes: u64,
+    size: u32,
+) -> Option<FullAt>
     requires few { bytes ≤ 268_435_456 }
     ensures { result ≡ passed_by_count limits.now count bytes size }
 {

@@ -19,6 +19,3 @@ pub use durable_journal::{Counts, OpenFault};
 pub use fault::StepFault;
 pub use looking::inspect;
 pub use store::{Store, stands};
-
-#[cfg(test)]
-mod tests;

@@ -15,7 +15,10 @@ use wfs_ends::Failed;
 use wfs_model::Change;
 
 /// Ends what is begun, where something is.
-pub(crate) fn mend<D: Disk>(journal: &mut Journal<D>, begun: &mut Option<Change>) -> Result<(), Failed>
+pub(crate) fn mend<D: Disk>(
+    journal: &mut Journal<D>,
+    begun: &mut Option<Change>,
+) -> Result<(), Failed>
     requires { (schema : Schema) × (kept : Durable) × Keeps D.images schema kept begun.old journal.old }
     ensures done { OnOk result ((schema : Schema) (kept : Durable) → Keeps D.images schema kept begun.old journal.old → Keeps D.images schema kept None journal.new) }
     ensures ended { OnOk result (begun.new ≡ None) }

@@ -9,19 +9,19 @@ repair-requires g c = keeps_stands g.D.Disk.images c.args.journal.now c.requires
 pub returns-in-Ok-clause-done : goal.returns-in-Ok-clause-done
 returns-in-Ok-clause-done g c schema kept keeps =
     inl (ended g.D.Disk.images schema kept c.args.journal.now c.repair.new.self (λ bodies rests. (c.repair.ensures.nothing bodies rests).1)
-        c.in-Ok.ensures.done c.in-Ok.ensures.done_side c.args.begun.now keeps)
+    c.in-Ok.ensures.done c.in-Ok.ensures.done_side c.args.begun.now keeps)
 
 pub returns-in-Ok-clause-goes : goal.returns-in-Ok-clause-goes
 returns-in-Ok-clause-goes g c schema kept keeps =
     ending_goes g.D.Disk.moment g.D.Disk.since g.D.Disk.images g.met.D.Disk.counts g.met.D.Disk.only schema kept c.args.journal.now c.repair.new.self
-        (λ bodies rests. (c.repair.ensures.nothing bodies rests).1) c.repair.ensures.goes c.repair.ensures.goes_side c.args.begun.now keeps
+    (λ bodies rests. (c.repair.ensures.nothing bodies rests).1) c.repair.ensures.goes c.repair.ensures.goes_side c.args.begun.now keeps
 
 pub returns-in-Err-clause-fault : goal.returns-in-Err-clause-fault
 returns-in-Err-clause-fault g c schema kept keeps =
     still_begun g.D.Disk.images schema kept c.args.journal.now c.repair.new.self (λ bodies rests. (c.repair.ensures.nothing bodies rests).1)
-        c.in-Err.ensures.fault c.in-Err.ensures.fault_side c.args.begun.now keeps
+    c.in-Err.ensures.fault c.in-Err.ensures.fault_side c.args.begun.now keeps
 
 pub returns-in-Err-clause-goes : goal.returns-in-Err-clause-goes
 returns-in-Err-clause-goes g c schema kept keeps =
     ending_goes g.D.Disk.moment g.D.Disk.since g.D.Disk.images g.met.D.Disk.counts g.met.D.Disk.only schema kept c.args.journal.now c.repair.new.self
-        (λ bodies rests. (c.repair.ensures.nothing bodies rests).1) c.repair.ensures.goes c.repair.ensures.goes_side c.args.begun.now keeps
+    (λ bodies rests. (c.repair.ensures.nothing bodies rests).1) c.repair.ensures.goes c.repair.ensures.goes_side c.args.begun.now keeps

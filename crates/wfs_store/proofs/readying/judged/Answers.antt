@@ -15,7 +15,7 @@ returns-in_err-prepare-clause-full c opening start course long =
     let p = err_from_is_err_and c.from_residual-in_err-prepare.result c.from_residual-in_err-prepare.ensures.1 in
     let at = c.in_ok-moment.ensures in
     rw (p.1, p.2) (state_judged opening start c.args.course.now c.args.entry.now c.args.side course long c.in_ok-moment.moment c.in_ok-moment.plan at.moment at.plan at.full
-        c.in_err-prepare.field-0.0 (c.in_err-prepare.ensures.full c.args.entry.now.request at.plan))
+    c.in_err-prepare.field-0.0 (c.in_err-prepare.ensures.full c.args.entry.now.request at.plan))
 
 pub spell-requires-clause-short : goal.spell-requires-clause-short
 spell-requires-clause-short c =
@@ -29,10 +29,10 @@ returns-in_err-spell-clause-full c opening start course long =
     let p = err_from_is_err_and c.from_residual-in_err-spell.result c.from_residual-in_err-spell.ensures.1 in
     let at = c.in_ok-moment.ensures in
     rw (p.1, p.2) (side_judged opening start c.args.course.now c.args.entry.now c.args.side course long c.in_ok-moment.moment c.in_ok-moment.plan at.moment at.plan at.full
-        c.in_err-spell.field-0.0 (c.in_ok-prepare.ensures.full c.args.entry.now.request at.plan) (c.in_err-spell.ensures.full c.args.course.now.state.schema course.signature))
+    c.in_err-spell.field-0.0 (c.in_ok-prepare.ensures.full c.args.entry.now.request at.plan) (c.in_err-spell.ensures.full c.args.course.now.state.schema course.signature))
 
 pub returns-clause-full : goal.returns-clause-full
 returns-clause-full c opening start course long =
     let at = c.in_ok-moment.ensures in
     none_judged opening start c.args.course.now c.args.entry.now c.args.side course long c.in_ok-moment.moment c.in_ok-moment.plan at.moment at.plan at.full
-        (c.in_ok-prepare.ensures.full c.args.entry.now.request at.plan) (c.in_ok-spell.ensures.full c.args.course.now.state.schema course.signature)
+    (c.in_ok-prepare.ensures.full c.args.entry.now.request at.plan) (c.in_ok-spell.ensures.full c.args.course.now.state.schema course.signature)

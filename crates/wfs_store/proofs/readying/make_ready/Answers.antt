@@ -18,4 +18,4 @@ returns-clause-written c =
     let can = rw at.same.state at at.ready.prepared.change in
     let playable = rw (at.same.schema, at.same.state) at at.ready.prepared.playable in
     writable_if c.args.course.now.state.schema c.args.course.now.state.state c.in_ok-moment.moment c.args.entry.now.request c.in_ok-moment.plan
-        c.args.side c.args.course.now.limits.side c.judged.new.course.body.items planned can playable c.requires.texts at.spelled
+    c.args.side c.args.course.now.limits.side c.judged.new.course.body.items planned can playable c.requires.texts at.spelled

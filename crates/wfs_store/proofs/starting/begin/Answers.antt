@@ -1,7 +1,6 @@
 -- What the bodies come to is kept well, and so is the store that begins on it.
-use Rattle.std.proofs.Common.{◌≡◌, ◌≤◌, ◌∙◌, ℕ, All, None, refl, sym, ap, subst}
+use Rattle.std.proofs.Common.{◌≤◌, ◌∙◌, ℕ, All, None, refl, sym, ap, subst}
 use Rattle.wfs_model.specs.Playable.{most_number}
-use Rattle.wfs_model.specs.Played.{played_one}
 use Rattle.wfs_model.specs.State.{Durable, opened}
 use Rattle.wfs_store.specs.declared.course.Course.{Course}
 use Rattle.wfs_store.proofs.Starts.{begun_store, next_numbers, next_opened}
@@ -21,5 +20,5 @@ invariant_of-result g c =
     let state = c.open.ensures.state ∙ ap (λ (k : Durable). opened k k.opening) at.now ∙ next_opened at.kept in
     let course : Course = record { alloc = c.args.alloc; limits = c.args.limits; signature = c.args.signature; state = c.open.result; history = c.new.result; bytes = 0; last = None; body = c.new-2.result } in
     begun_store g.D.Disk.images course c.args.opened.journal c.args.opened.bodies c.side_length-side.result at.kept
-        (rw schema at.come) (rw schema restorable.well) state c.new.ensures.items refl refl (rw schema c.requires.signature) (rw schema c.requires.rules)
-        (rw (schema, ← at.now) at.rests) at.limit_is c.side_length-side.ensures
+    (rw schema at.come) (rw schema restorable.well) state c.new.ensures.items refl refl (rw schema c.requires.signature) (rw schema c.requires.rules)
+    (rw (schema, ← at.now) at.rests) at.limit_is c.side_length-side.ensures

@@ -1,9 +1,8 @@
 -- What a step comes to where it is refused, where a disk failed, and where it is carried out.
-use Rattle.std.proofs.Common.{◌≡◌, ℕ, List, None, sym, ◌∙◌}
+use Rattle.std.proofs.Common.{◌∙◌}
 use Rattle.std.proofs.lemmas.Result.{err_from_is_err_and}
-use Rattle.feature_journal.specs.Kept.{length_of}
 use Rattle.wfs_model.specs.State.{durable}
-use Rattle.wfs_store.specs.Kept.{length_after, opening_on}
+use Rattle.wfs_store.specs.Kept.{opening_on}
 use Rattle.wfs_store.proofs.Courses.{same_course, store_stays}
 use Rattle.wfs_store.proofs.Ends.{side_told, refused_step, failed_step, done_step, done_store, writable_copy, writable_there}
 use Rattle.wfs_store.proofs.stepping.take_step.Goals as goal
@@ -26,8 +25,8 @@ returns-in-Ok-clause-store g c bodies side store =
     let kept = c.in-Ok.ensures.kept c.args.course.now.state.schema (durable c.args.course.now.state.state) store.keeps there in
     let ended = c.enter.ensures in
     done_store g.D.Disk.moment g.D.Disk.since g.D.Disk.images g.D.Disk.faults g.met.D.Disk.counts g.met.D.Disk.only c.args.course.now c.make_ready.new.course c.args.journal.now bodies side c.args.begun.now c.args.tally.now c.args.entry store c.make_ready.ensures.same c.in_ok-ready.ready c.in_ok-ready.copy at.taken c.enter.new.course c.write.new.journal c.write.new.begun c.enter.result c.deref.result.now
-        (ended.course opening (same_course opening c.args.course.now c.make_ready.new.course at.same store.memory))
-        kept writable c.in-Ok.ensures.longer c.in-Ok.ensures.limit ended.entries ended.step ended.schema ended.limits
+    (ended.course opening (same_course opening c.args.course.now c.make_ready.new.course at.same store.memory))
+    kept writable c.in-Ok.ensures.longer c.in-Ok.ensures.limit ended.entries ended.step ended.schema ended.limits
 
 pub returns-in-Ok-clause-step : goal.returns-in-Ok-clause-step
 returns-in-Ok-clause-step g c bodies side store =
@@ -40,7 +39,7 @@ returns-in-Ok-clause-step g c bodies side store =
     let goes = c.write.ensures.goes c.args.course.now.state.schema (durable c.args.course.now.state.state) store.keeps there in
     let ended = c.enter.ensures in
     done_step g.D.Disk.moment g.D.Disk.since g.D.Disk.images g.D.Disk.faults g.met.D.Disk.counts g.met.D.Disk.only c.args.course.now c.make_ready.new.course c.args.journal.now bodies side c.args.begun.now c.args.tally.now c.args.entry store c.make_ready.ensures.same c.in_ok-ready.ready c.in_ok-ready.copy at.taken c.enter.new.course c.write.new.journal c.write.new.begun c.enter.result full goes
-        c.in-Ok.ensures.done (λ none. (c.write.ensures.unwritten none).1) c.write.ensures.count ended.entries ended.step ended.schema ended.limits
+    c.in-Ok.ensures.done (λ none. (c.write.ensures.unwritten none).1) c.write.ensures.count ended.entries ended.step ended.schema ended.limits
 
 pub returns-in-Err-clause-store : goal.returns-in-Err-clause-store
 returns-in-Err-clause-store g c bodies side store =
@@ -50,7 +49,7 @@ returns-in-Err-clause-store g c bodies side store =
     let there = writable_there g.D.Disk.moment g.D.Disk.since g.D.Disk.images g.D.Disk.faults g.met.D.Disk.counts g.met.D.Disk.only c.args.course.now c.make_ready.new.course c.args.journal.now bodies side c.args.begun.now c.args.tally.now c.args.entry store c.make_ready.ensures.same c.in_ok-ready.ready c.in_ok-ready.copy at.taken c.deref.result.now writable in
     let kept = c.in-Err.ensures.kept c.args.course.now.state.schema (durable c.args.course.now.state.state) store.keeps there in
     store_stays g.D.Disk.images c.args.course.now c.make_ready.new.course bodies side c.args.journal.now c.write.new.journal c.args.begun.now c.write.new.begun at.same store
-        kept c.in-Err.ensures.same c.in-Err.ensures.limit
+    kept c.in-Err.ensures.same c.in-Err.ensures.limit
 
 pub returns-in-Err-clause-step : goal.returns-in-Err-clause-step
 returns-in-Err-clause-step g c bodies side store =
@@ -62,4 +61,4 @@ returns-in-Err-clause-step g c bodies side store =
     let there = writable_there g.D.Disk.moment g.D.Disk.since g.D.Disk.images g.D.Disk.faults g.met.D.Disk.counts g.met.D.Disk.only c.args.course.now c.make_ready.new.course c.args.journal.now bodies side c.args.begun.now c.args.tally.now c.args.entry store c.make_ready.ensures.same c.in_ok-ready.ready c.in_ok-ready.copy at.taken c.deref.result.now writable in
     let goes = c.write.ensures.goes c.args.course.now.state.schema (durable c.args.course.now.state.state) store.keeps there in
     failed_step g.D.Disk.moment g.D.Disk.since g.D.Disk.images g.D.Disk.faults g.met.D.Disk.counts g.met.D.Disk.only c.args.course.now c.make_ready.new.course c.args.journal.now bodies side c.args.begun.now c.args.tally.now c.args.entry store c.make_ready.ensures.same c.in_ok-ready.ready c.in_ok-ready.copy at.taken c.write.new.journal c.write.new.begun c.raise.new.tally full goes
-        c.in-Err.ensures.fault (λ none. let e = (c.in-Err.ensures.unwritten none).0 in absurd cc) c.raise.ensures c.write.ensures.count c.in-Err.ensures.cause
+    c.in-Err.ensures.fault (λ none. let e = (c.in-Err.ensures.unwritten none).0 in absurd cc) c.raise.ensures c.write.ensures.count c.in-Err.ensures.cause

@@ -1,5 +1,5 @@
 -- A compaction of the fields is one of what they are seen as.
-use Rattle.std.proofs.Common.{◌≡◌, ◌∙◌, ap}
+use Rattle.std.proofs.Common.{◌∙◌, ap}
 use Rattle.wfs_store.specs.Held.{Held}
 use Rattle.wfs_store.proofs.store.Store.compact.Goals as goal
 

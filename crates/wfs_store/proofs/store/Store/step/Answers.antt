@@ -1,5 +1,5 @@
 -- A step of the fields is a step of what they are seen as.
-use Rattle.std.proofs.Common.{◌≡◌, ap}
+use Rattle.std.proofs.Common.{ap}
 use Rattle.wfs_store.specs.Held.{Held}
 use Rattle.wfs_store.proofs.store.Store.step.Goals as goal
 
