@@ -1,8 +1,8 @@
 -- What the reader's steps come to.
-use Rattle.std.proofs.Common.{◌≡◌, inl, inr, ℕ, ◌<◌, ◌≤◌, Bool, true, false, List, ◌++◌, length, drop, refl, sym, ap, subst, ◌∙◌, arith, Option, Some, None}
+use Rattle.std.proofs.Common.{◌≡◌, inl, inr, ℕ, ◌<◌, ◌≤◌, Bool, true, false, List, [], ◌++◌, length, drop, refl, sym, ap, subst, ◌∙◌, arith, Option, Some, None}
 use Rattle.std.specs.Prelude.{Ok, Err, IfSome}
 use Rattle.wfs_ends.specs.Ends.{Given, Shown, Rose, AllGrow, KeepsGiven, GivesAll, given_more}
-use Rattle.wfs_ends.proofs.Given.{given_nil, all_grow, keeps_none}
+use Rattle.wfs_ends.proofs.Given.{given_nil, all_grow, all_nothing}
 use Rattle.httparse.specs.Grammar.{print_request, ReadsRequest, HasNoRequest}
 use Rattle.httparse.proofs.GrammarLemmas.{ReadsRequest-append}
 use Rattle.httparse.specs.declared.spans.HeaderSpan.{HeaderSpan}
@@ -17,7 +17,7 @@ use Rattle.http_session.specs.Heads.{head, no_head, head_limit, EndsWithoutHead}
 use Rattle.http_session.specs.Fields.{judged}
 use Rattle.http_session.specs.Frames.{Frame, ended, is_due, BodyFound, content, no_content, framed, IsBody, HasBody, IsFramed, IsNext}
 use Rattle.http_session.specs.Reading.{after_buffer, ahead, Moved, Reached, IsFault, IsCalm, HeadAt}
-use Rattle.http_session.specs.Answers.{Answers, OnlyDue, Written, HasPlan, Awaits, Breaks, IsPlanned, AwaitsBody, Stays, Reads, ReadsRest, IsBodyNext, IsAsked, interim, next_of}
+use Rattle.http_session.specs.Answers.{Answers, OnlyDue, GaveAll, Written, HasPlan, Awaits, Breaks, IsPlanned, AwaitsBody, Stays, Reads, ReadsRest, IsBodyNext, IsAsked, interim, next_of}
 use Rattle.http_session.proofs.Spots.{after_twice}
 use Rattle.http_session.proofs.Unique.{frames_of_head}
 
@@ -90,7 +90,7 @@ body_ended start e a b b' s t is h = record {
 -- ---- what is written
 
 pub asked_not : (due : Bool) (s : Shown) → due ≡ false → IsAsked due false s s
-asked_not due s is = rw is (record { given = given_nil s.given; keeps = keeps_none s })
+asked_not due s is = rw is (all_nothing s)
 
 frame_due : (method target : List ℕ) (plan : Plan) (found : BodyFound) → is_due (framed method target plan found) ≡ plan.due
 frame_due method target plan (content found rest) = refl
@@ -110,17 +110,26 @@ ask_failed start b b' s t (due, front) = record {
     each None = tt
     each (Some bytes) = λ frame (found, is, e) yes. ap is_due e ∙ frame_due start.method start.target start.plan found ∙ due
 
+gave_by : (s m t : Shown) (text : List ℕ) → GivesAll s text m → KeepsGiven m t → GaveAll s text t
+gave_by s m t text g k = record { given = k.given ∙ g.given; calm = k.puts ∙ g.calm }
+
+gave_nothing : (s : Shown) → GaveAll s [] s
+gave_nothing s = record { given = given_nil s.given; calm = refl }
+
+gave_behind : (s m t : Shown) (text : List ℕ) → KeepsGiven s m → GaveAll m text t → GaveAll s text t
+gave_behind s m t text k w = record { given = w.given ∙ ap (λ o. given_more o text) k.given; calm = w.calm ∙ k.puts }
+
 written_by : (due : Bool) (a : Next) (s m t : Shown) → GivesAll s (interim due) m → KeepsGiven m t → (a ≡ next.ReadFault → Rose m.failed_takes t.failed_takes) → (a ≡ next.WriteFault → ⊥) → Written due a s t
-written_by due (next.Message x) s m t g k fault read = k.given ∙ g.given
-written_by due next.End s m t g k fault read = k.given ∙ g.given
-written_by due next.BadHead s m t g k fault read = k.given ∙ g.given
-written_by due next.TooLarge s m t g k fault read = k.given ∙ g.given
-written_by due next.NoLength s m t g k fault read = k.given ∙ g.given
-written_by due next.Coding s m t g k fault read = k.given ∙ g.given
-written_by due next.Cut s m t g k fault read = k.given ∙ g.given
-written_by due next.ReadFault s m t g k fault read = (k.given ∙ g.given, let r = fault refl in omega (arith, g.keeps.takes, r))
+written_by due (next.Message x) s m t g k fault read = gave_by s m t _ g k
+written_by due next.End s m t g k fault read = gave_by s m t _ g k
+written_by due next.BadHead s m t g k fault read = gave_by s m t _ g k
+written_by due next.TooLarge s m t g k fault read = gave_by s m t _ g k
+written_by due next.NoLength s m t g k fault read = gave_by s m t _ g k
+written_by due next.Coding s m t g k fault read = gave_by s m t _ g k
+written_by due next.Cut s m t g k fault read = gave_by s m t _ g k
+written_by due next.ReadFault s m t g k fault read = (gave_by s m t _ g k, let r = fault refl in omega (arith, g.keeps.takes, r))
 written_by due next.WriteFault s m t g k fault read = absurd (read refl)
-written_by due next.OutOfMemory s m t g k fault read = k.given ∙ g.given
+written_by due next.OutOfMemory s m t g k fault read = gave_by s m t _ g k
 
 -- where the rest of a message breaks off
 breaks_by : (plan : Plan) (a : Next) (b : List ℕ) (s m t : Shown) → m.left ≡ s.left → (a ≡ next.ReadFault → (q : IsFault (ahead b m) m t) × IsBody plan.body q.reached.taken (no_content ending.Cut)) → (a ≡ next.OutOfMemory → Reached (ahead b m) t) → (a ≡ next.WriteFault → ⊥)
@@ -155,12 +164,12 @@ stays_same : (s : Shown) → Stays s s
 stays_same s = record { takes = omega arith; passed = all_grow s.passed; puts = omega arith; place = refl }
 
 written_none : (e : Ending) (a : Next) (s : Shown) → a ≡ next_of e → Written false a s s
-written_none ending.End a s is = rw is (given_nil s.given)
-written_none ending.Cut a s is = rw is (given_nil s.given)
-written_none ending.BadHead a s is = rw is (given_nil s.given)
-written_none ending.TooLarge a s is = rw is (given_nil s.given)
-written_none ending.NoLength a s is = rw is (given_nil s.given)
-written_none ending.Coding a s is = rw is (given_nil s.given)
+written_none ending.End a s is = rw is (gave_nothing s)
+written_none ending.Cut a s is = rw is (gave_nothing s)
+written_none ending.BadHead a s is = rw is (gave_nothing s)
+written_none ending.TooLarge a s is = rw is (gave_nothing s)
+written_none ending.NoLength a s is = rw is (gave_nothing s)
+written_none ending.Coding a s is = rw is (gave_nothing s)
 
 breaks_none : (due : Bool) (e : Ending) (a : Next) (o : Option (List ℕ)) (t : Shown) → a ≡ next_of e → Breaks Awaits HasPlan due a o t
 breaks_none due ending.End a o t is = rw is tt
@@ -179,7 +188,7 @@ pub head_failed : (b c : List ℕ) (s t : Shown) → Moved b s c t → HasNoRequ
 head_failed b c s t m none short rose = record {
   due = false;
   answers = not_due IsNext (ahead b s);
-  written = (m.keeps.given ∙ given_nil s.given, rose);
+  written = (gave_behind s t t [] m.keeps (gave_nothing t), rose);
   breaks = (record { taken = c; parts = sym m.same }, inl ((none, short), refl));
   stays = record { takes = m.keeps.takes; passed = subst (λ (p : List Given). AllGrow s.passed p) (sym m.keeps.passed) (all_grow s.passed); puts = let k = m.keeps.puts in omega (arith, k); place = m.keeps.place };
   calm = λ other. absurd (other refl);
@@ -190,7 +199,7 @@ pub head_memory : (b : List ℕ) (s : Shown) → Reads b s next.OutOfMemory b s
 head_memory b s = record {
   due = false;
   answers = not_due IsNext (ahead b s);
-  written = given_nil s.given;
+  written = gave_nothing s;
   breaks = (record { taken = b; parts = refl }, λ yes. absurd cc);
   stays = stays_same s;
   calm = λ other. refl;
@@ -283,15 +292,15 @@ head_followed start a b c b' headers spans s t at le method target plan skip r =
 -- ---- bytes were taken before
 
 written_moved : (due : Bool) (a : Next) (s m t : Shown) → KeepsGiven s m → Written due a m t → Written due a s t
-written_moved due (next.Message x) s m t k w = w ∙ ap (λ o. given_more o (interim due)) k.given
-written_moved due next.End s m t k w = w ∙ ap (λ o. given_more o (interim due)) k.given
-written_moved due next.BadHead s m t k w = w ∙ ap (λ o. given_more o (interim due)) k.given
-written_moved due next.TooLarge s m t k w = w ∙ ap (λ o. given_more o (interim due)) k.given
-written_moved due next.NoLength s m t k w = w ∙ ap (λ o. given_more o (interim due)) k.given
-written_moved due next.Coding s m t k w = w ∙ ap (λ o. given_more o (interim due)) k.given
-written_moved due next.Cut s m t k w = w ∙ ap (λ o. given_more o (interim due)) k.given
-written_moved due next.OutOfMemory s m t k w = w ∙ ap (λ o. given_more o (interim due)) k.given
-written_moved due next.ReadFault s m t k w = (w.0 ∙ ap (λ o. given_more o (interim due)) k.given, omega (arith, k.takes, w.1))
+written_moved due (next.Message x) s m t k w = gave_behind s m t _ k w
+written_moved due next.End s m t k w = gave_behind s m t _ k w
+written_moved due next.BadHead s m t k w = gave_behind s m t _ k w
+written_moved due next.TooLarge s m t k w = gave_behind s m t _ k w
+written_moved due next.NoLength s m t k w = gave_behind s m t _ k w
+written_moved due next.Coding s m t k w = gave_behind s m t _ k w
+written_moved due next.Cut s m t k w = gave_behind s m t _ k w
+written_moved due next.OutOfMemory s m t k w = gave_behind s m t _ k w
+written_moved due next.ReadFault s m t k w = (gave_behind s m t _ k w.0, omega (arith, k.takes, w.1))
 written_moved due next.WriteFault s m t k w =
     (w.0, record { front = w.1.front; rest = w.1.rest; parts = w.1.parts; given = w.1.given ∙ ap (λ o. given_more o w.1.front) k.given; cause = subst (λ (n : ℕ). Rose n t.failed_puts) k.puts w.1.cause })
 

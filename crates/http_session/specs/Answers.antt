@@ -44,6 +44,11 @@ Answers is_frame due next.ReadFault left = OnlyDue due is_frame
 Answers is_frame due next.WriteFault left = OnlyDue due is_frame
 Answers is_frame due next.OutOfMemory left = OnlyDue due is_frame
 
+-- the text was written, and no put failed
+pub record GaveAll (before : Shown) (text : List ℕ) (after : Shown) : Type 0 where
+  pub given : after.given ≡ given_more before.given text
+  pub calm : after.failed_puts ≡ before.failed_puts
+
 -- some front of the text was written, and then the link failed to write
 pub record GaveFront (before : Shown) (text : List ℕ) (after : Shown) : Type 0 where
   pub front : List ℕ
@@ -55,15 +60,15 @@ pub record GaveFront (before : Shown) (text : List ℕ) (after : Shown) : Type 0
 -- what was written: the line where it is due, once; where the link failed to write, some front of it
 abbrev pub Written : Bool → Next → Shown → Shown → Type 0
 Written due next.WriteFault before after = (due ≡ true) × GaveFront before continue_line after
-Written due next.ReadFault before after = (after.given ≡ given_more before.given (interim due)) × Rose before.failed_takes after.failed_takes
-Written due (next.Message m) before after = after.given ≡ given_more before.given (interim due)
-Written due next.End before after = after.given ≡ given_more before.given (interim due)
-Written due next.BadHead before after = after.given ≡ given_more before.given (interim due)
-Written due next.TooLarge before after = after.given ≡ given_more before.given (interim due)
-Written due next.NoLength before after = after.given ≡ given_more before.given (interim due)
-Written due next.Coding before after = after.given ≡ given_more before.given (interim due)
-Written due next.Cut before after = after.given ≡ given_more before.given (interim due)
-Written due next.OutOfMemory before after = after.given ≡ given_more before.given (interim due)
+Written due next.ReadFault before after = GaveAll before (interim due) after × Rose before.failed_takes after.failed_takes
+Written due (next.Message m) before after = GaveAll before (interim due) after
+Written due next.End before after = GaveAll before (interim due) after
+Written due next.BadHead before after = GaveAll before (interim due) after
+Written due next.TooLarge before after = GaveAll before (interim due) after
+Written due next.NoLength before after = GaveAll before (interim due) after
+Written due next.Coding before after = GaveAll before (interim due) after
+Written due next.Cut before after = GaveAll before (interim due) after
+Written due next.OutOfMemory before after = GaveAll before (interim due) after
 
 -- the bytes hold a head whose fields say whether the line is due
 abbrev pub HasPlan : List ℕ → Bool → Type 0
@@ -100,7 +105,7 @@ pub record Stays (before after : Shown) : Type 0 where
   pub place : after.place ≡ before.place
 
 -- What a call answered and wrote, where the bytes that were to be read have these frames. Where a take failed, the answer is the read
--- fault: no message is told then, and no ending.
+-- fault: no message is told then, and no ending. Where a put failed, it is the write fault.
 pub record ReadsBy (frames : List ℕ → Frame → Type 0) (awaits plans : List ℕ → Bool → Type 0) (buffered : List ℕ) (before : Shown) (answer : Next) (buffered' : List ℕ) (after : Shown) : Type 0 where
   pub due : Bool
   pub answers : IfSome (ahead buffered before) (λ bytes. Answers (frames bytes) due answer (ahead buffered' after))

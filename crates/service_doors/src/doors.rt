@@ -6,14 +6,17 @@ ghost use Rattle.service_doors.specs.declared.doors.DoorFault.TheVariants.{OutOf
 
 use crate::Acceptor;
 use std::alloc::{AllocError, AllocFailed, Global};
+use thiserror::Error;
 use wfs_ends::{OutOfMemory, Text};
 
 /// Why doors are not opened.
-#[derive(Clone, Copy, Debug, PartialEq, Eq)]
+#[derive(Clone, Copy, Debug, PartialEq, Eq, Error)]
 pub enum DoorFault {
     /// The doors failed: their count of failed calls rose.
+    #[error("the doors failed")]
     Failed,
     /// Memory ran out.
+    #[error("out of memory")]
     OutOfMemory,
 }
 

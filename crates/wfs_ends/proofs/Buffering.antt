@@ -65,10 +65,11 @@ front_through a b held text first now g = record {
     r : Reached first.given now.given g.front
     r = reached first.given now.given held g.front g.keeps.passed.0 g.given
 
-pub all_through : (a b : GName) (held text : List ℕ) (first mid now : Shown) → GivesAll (behind_buffer a b [] first) text (behind_buffer a b held mid) → given_more now.given [] ≡ given_more mid.given held → KeepsLeft mid now → GivesAll first text now
-all_through a b held text first mid now g e k = record {
+pub all_through : (a b : GName) (held text : List ℕ) (first mid now : Shown) → GivesAll (behind_buffer a b [] first) text (behind_buffer a b held mid) → given_more now.given [] ≡ given_more mid.given held → KeepsLeft mid now → now.failed_puts ≡ mid.failed_puts → GivesAll first text now
+all_through a b held text first mid now g e k calm = record {
   given = given_nil now.given ∙ e ∙ g.given ∙ ap (λ o. given_more o text) (sym (given_nil first.given));
   keeps = keeps_on first mid now (keeps_within a b [] held first mid g.keeps) k;
+  calm = calm ∙ g.calm;
 }
 
 pub cut_through : (a b : GName) (held still text : List ℕ) (first mid now : Shown) → GivesAll (behind_buffer a b [] first) text (behind_buffer a b held mid) → given_more now.given still ≡ given_more mid.given held → Grows mid.given now.given → KeepsLeft mid now → Rose mid.failed_puts now.failed_puts → GivesFront first text now

@@ -54,6 +54,7 @@ impl Buffer {
         ensures grows { Grows (S.sink sink.old).given (S.sink sink.new).given }
         ensures keeps { KeepsLeft (S.sink sink.old) (S.sink sink.new) }
         ensures cause { OnErr result (Rose (S.sink sink.old).failed_puts (S.sink sink.new).failed_puts) }
+        ensures calm { OnOk result ((S.sink sink.new).failed_puts ≡ (S.sink sink.old).failed_puts) }
         ensures empty { OnOk result (self.new ≡ []) }
     {
         while self.sent < self.bytes.len() {
@@ -64,7 +65,7 @@ impl Buffer {
     }
 
     /// Passes on what is left of a text that was given through this buffer, and says whether all of
-    /// it was given. `WriteFault` comes only where the sink's count of failed puts rose; a front of
+    /// it was given. `WriteFault` comes just where the sink's count of failed puts rose; a front of
     /// the text was given then.
     pub fn finish<S: Sink>(
         &mut self,

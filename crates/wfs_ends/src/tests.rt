@@ -1,9 +1,9 @@
 //! Each public call once, with ample memory, and the real ends against real files.
 
 use crate::{
-    Boxed, Buffer, Buffered, Clock, InputFile, Joined, List, ListClock, MemLink, MemSink,
-    MemSource, ReadEnd, RealClock, Sink, Source, StandardInput, StandardOutput, Text, WriteEnd,
-    WriteFault, put_all, put_on,
+    Boxed, Buffer, Buffered, Clock, CountingSink, InputFile, Joined, List, ListClock, MemLink,
+    MemSink, MemSource, ReadEnd, RealClock, Sink, Source, StandardInput, StandardOutput, Text,
+    WriteEnd, WriteFault, put_all, put_on,
 };
 use std::fs;
 use std::test::Fail;
@@ -19,6 +19,16 @@ fn a_sink_in_memory_gives_what_fits_and_fails_where_it_is_told(
     assert_eq!(rt; put_all(&mut sink, b"defg"), Err(WriteFault));
     assert_eq!(rt; sink.bytes(), b"abcde".as_slice());
     assert!(rt; put_on(&mut sink, true, b"x"));
+    Ok(())
+}
+
+#[test]
+fn a_counting_sink_counts_the_bytes_of_all_puts(rt: HostRuntime) -> Result<(), Fail> {
+    let mut counter = CountingSink::new();
+    assert_eq!(rt; put_all(&mut counter, b"abc"), Ok(()));
+    assert_eq!(rt; put_all(&mut counter, b""), Ok(()));
+    assert!(rt; !put_on(&mut counter, false, b"de"));
+    assert_eq!(rt; counter.count(), 5);
     Ok(())
 }
 

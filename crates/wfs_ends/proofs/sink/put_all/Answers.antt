@@ -1,4 +1,4 @@
-use Rattle.std.proofs.Common.{rules}
+use Rattle.std.proofs.Common.{rules, refl}
 use Rattle.wfs_ends.proofs.Given.{given_next, given_nil, gives_front, keeps_none, keeps_on}
 use Rattle.wfs_ends.proofs.sink.put_all.Goals as goal
 
@@ -13,4 +13,4 @@ loop-done-preserved g c =
     grind (rules, given_next, keeps)
 
 pub loop-done-init : goal.loop-done-init
-loop-done-init g c = (search rules, given_nil _, keeps_none _)
+loop-done-init g c = (search rules, given_nil _, keeps_none _, refl)

@@ -10,4 +10,4 @@ pub returns-in-Err-pass_on : goal.returns-in-Err-pass_on
 returns-in-Err-pass_on g c = λ first text a b w. cut_through a b _ _ text first _ _ (all_at_ok _ _ _ _ (search rules) w) c.pass_on.ensures.given c.pass_on.ensures.grows c.pass_on.ensures.keeps c.in-Err-pass_on.ensures.cause
 
 pub returns-in-Ok-pass_on : goal.returns-in-Ok-pass_on
-returns-in-Ok-pass_on g c = λ first text a b w. all_through a b _ text first _ _ (all_at_ok _ _ _ _ (search rules) w) (search rules) c.pass_on.ensures.keeps
+returns-in-Ok-pass_on g c = λ first text a b w. all_through a b _ text first _ _ (all_at_ok _ _ _ _ (search rules) w) (search rules) c.pass_on.ensures.keeps (search rules)

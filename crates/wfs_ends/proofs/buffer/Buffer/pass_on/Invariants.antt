@@ -7,6 +7,7 @@ invariant-loop-self g l = (l.self-inside.sent ≤ length l.self-inside.bytes.ite
     × (given_more (g.S.Sink.sink l.sink).given (drop l.self-inside.sent l.self-inside.bytes.items) ≡ given_more (g.S.Sink.sink l.fn.sink).given l.fn.self)
     × Grows (g.S.Sink.sink l.fn.sink).given (g.S.Sink.sink l.sink).given
     × KeepsLeft (g.S.Sink.sink l.fn.sink) (g.S.Sink.sink l.sink)
+    × ((g.S.Sink.sink l.sink).failed_puts ≡ (g.S.Sink.sink l.fn.sink).failed_puts)
 
 abbrev pub decreases-loop-self : goal.decreases-loop-self
 decreases-loop-self g l = length l.self-inside.bytes.items - l.self-inside.sent
