@@ -21,6 +21,3 @@ mod word;
 
 pub use document::{one_tree, read_document};
 pub use fault::DocFault;
-
-#[cfg(test)]
-mod tests;

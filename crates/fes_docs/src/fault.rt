@@ -7,25 +7,32 @@ ghost use Rattle.fes_docs.specs.declared.fault.FilterDocFault.TheVariants.{Opera
 use fes_filter::FilterFault;
 use gml_docs::GmlFault;
 use std::alloc::{AllocError, AllocFailed, Global};
+use thiserror::Error;
 use wfs_ends::{OutOfMemory, Text};
 
 /// What is wrong first with the element of a filter.
-#[derive(Debug, PartialEq, Eq, Drop)]
+#[derive(Debug, PartialEq, Eq, Drop, Error)]
 pub enum FilterDocFault {
     /// Where an operator is expected stands an element that is none, or an attribute is unknown or has a value that is
     /// none of its values: the local name.
+    #[error("{name} is no operator, attribute or value that stands there", name = .0.as_str())]
     Operator(Text),
     /// An element stands where it is not allowed: its local name. Or an element or an attribute that has to be there is
     /// missing: the local name of the element that wants it.
+    #[error("{name} is not allowed there, or wants what is missing", name = .0.as_str())]
     Shape(Text),
     /// What is wrong first with a geometry or an Envelope.
+    #[error("bad geometry: {0}")]
     Geometry(GmlFault),
     /// The feature type does not allow it: with the name of the property as it was given for `Unknown` and `Types`, and
     /// with `matchCase`, `escapeChar` or `Filter` for `Choice` and `TooLarge`.
+    #[error("{fault}: {name}", fault = .0, name = .1.as_str())]
     Checked(FilterFault, Text),
     /// A parameter of this name is not declared.
+    #[error("no parameter {name} is declared", name = .0.as_str())]
     Undeclared(Text),
     /// There is no memory for the filter.
+    #[error("out of memory")]
     OutOfMemory,
 }
 

@@ -22,6 +22,3 @@ pub use fault::FilterDocFault;
 pub use laws::{read_is_allowed, round_trip};
 pub use read::{read_filter, read_filter_in};
 pub use write::{filter_tree, filter_tree_in};
-
-#[cfg(test)]
-mod tests;

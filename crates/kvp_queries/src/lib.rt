@@ -15,6 +15,3 @@ mod selecting;
 mod sorting;
 
 pub use request::read_query;
-
-#[cfg(test)]
-mod tests;

@@ -1,13 +1,16 @@
 //! Why a stored text was not read.
 
+use thiserror::Error;
 use wfs_ends::OutOfMemory;
 
 /// Why a stored text was not read.
-#[derive(Clone, Copy, Debug, PartialEq, Eq)]
+#[derive(Clone, Copy, Debug, PartialEq, Eq, Error)]
 pub enum StoredTextFault {
     /// It is not the text that stands for some queries.
+    #[error("the text does not stand for queries")]
     BadText,
     /// Memory ran out.
+    #[error("out of memory")]
     OutOfMemory,
 }
 

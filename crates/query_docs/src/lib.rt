@@ -16,6 +16,3 @@ pub use asked::read_asked;
 pub use definition::read_definition;
 pub use fault::StoredTextFault;
 pub use text::{read_text, text_of};
-
-#[cfg(test)]
-mod tests;

@@ -17,6 +17,3 @@ mod updates;
 mod values;
 
 pub use request::read_request;
-
-#[cfg(test)]
-mod tests;

@@ -1,78 +1,18 @@
 //! Queries and the requests that they ask. What is expected comes from OGC 09-025r2 and OGC 06-121r9, and where these leave a choice
 //! from what `read_query` says.
 
-use super::*;
-use feature_values::{FeatureType, Property, Schema, ValueKind};
+use crate::samples::{fault_told, schema};
+use feature_values::Schema;
 use fes_filter::{Filter, IdRef, Query, SortKey};
 use geom_core::{Box2, Pos};
+use kvp_queries::read_query;
 use std::alloc::Global;
-use wfs_ends::{List, Mem, Text};
-use wfs_model::{AskFault, Asked, LockId, Present, Request, Take};
+use wfs_ends::{Mem, Text};
+use wfs_model::{Asked, LockId, Present, Request, Take};
 
 mod operations;
 mod requests;
 mod selection;
-
-fn property(alloc: Global, name: &str, kind: ValueKind) -> Mem<Property> {
-    Ok(Property {
-        name: Text::of(alloc, name)?,
-        kind,
-        required: false,
-        max: 40,
-    })
-}
-
-fn properties(alloc: Global, all: &[(&str, ValueKind)]) -> Mem<List<Property>> {
-    let mut properties = Vec::new(alloc);
-    for one in all {
-        properties.push(property(alloc, one.0, one.1)?)?;
-    }
-    Ok(List::of(properties))
-}
-
-fn type_named(alloc: Global, name: &str, all: &[(&str, ValueKind)]) -> Mem<FeatureType> {
-    Ok(FeatureType {
-        name: Text::of(alloc, name)?,
-        properties: properties(alloc, all)?,
-    })
-}
-
-static MARK: [(&str, ValueKind); 3] = [
-    ("label", ValueKind::Words),
-    ("size", ValueKind::Whole),
-    ("place", ValueKind::Point),
-];
-
-static FIELD: [(&str, ValueKind); 2] = [("name", ValueKind::Words), ("area", ValueKind::Polygon)];
-
-static WAY: [(&str, ValueKind); 1] = [("course", ValueKind::Line)];
-
-fn types(alloc: Global) -> Mem<List<FeatureType>> {
-    let mut types = Vec::new(alloc);
-    types.push(type_named(alloc, "Mark", &MARK)?)?;
-    types.push(type_named(alloc, "Field", &FIELD)?)?;
-    types.push(type_named(alloc, "Way", &WAY)?)?;
-    Ok(List::of(types))
-}
-
-fn srs(alloc: Global) -> Mem<List<Text>> {
-    let mut srs = Vec::new(alloc);
-    srs.push(Text::of(alloc, "urn:ogc:def:crs:EPSG::25832")?)?;
-    srs.push(Text::of(alloc, "EPSG:25832")?)?;
-    Ok(List::of(srs))
-}
-
-// Marks, fields and ways, in two names of one reference system.
-fn schema(alloc: Global) -> Mem<Schema> {
-    Ok(Schema {
-        title: Text::of(alloc, "Marks")?,
-        address: Text::of(alloc, "http://localhost:8080/wfs")?,
-        space: Text::of(alloc, "http://example.org/marks")?,
-        prefix: Text::of(alloc, "m")?,
-        srs: srs(alloc)?,
-        types: types(alloc)?,
-    })
-}
 
 fn add_number(line: &mut String, before: &str, number: Option<u32>) -> Mem<()> {
     line.push_str(before)?;
@@ -269,23 +209,12 @@ fn request_line(alloc: Global, request: &Request) -> Mem<String> {
     Ok(line)
 }
 
-fn fault_line(alloc: Global, fault: &AskFault) -> Mem<String> {
-    match fault {
-        AskFault::Refused(refusal) => {
-            let row = refusal.row;
-            let locator = refusal.locator.as_str();
-            Ok(format!(in alloc; "{row} {locator}")?)
-        }
-        AskFault::OutOfMemory => Ok(String::from_str(alloc, "memory")?),
-    }
-}
-
 // What a query asks, as a line: the type's number, what features are chosen by, the keys that they are sorted by, the page; or the
 // row and the locator of its refusal.
 fn told(alloc: Global, schema: &Schema, query: &str) -> Mem<String> {
     match read_query(alloc, query, schema) {
         Ok(request) => request_line(alloc, &request),
-        Err(fault) => fault_line(alloc, &fault),
+        Err(fault) => fault_told(alloc, &fault),
     }
 }
 

@@ -5,63 +5,29 @@ mod reading;
 mod refusals;
 mod writing;
 
-use super::*;
+use crate::samples::{Named, schema_of, type_of, words};
 use doc_tree::{Attribute, Element, QName};
-use feature_values::{FeatureType, Property, Schema, ValueKind};
+use feature_values::{Schema, ValueKind};
+use fes_docs::{FilterDocFault, filter_tree, filter_tree_in, read_filter, read_filter_in};
 use fes_filter::Filter;
 use std::alloc::Global;
 use wfs_ends::{List, Mem, Text};
 
 // ---- a schema
 
-fn texts(alloc: Global, words: &[&str]) -> Mem<List<Text>> {
-    let mut all = Vec::new(alloc);
-    for word in words {
-        all.push(Text::of(alloc, word)?)?;
-    }
-    Ok(List::of(all))
-}
-
-fn property(alloc: Global, name: &str, kind: ValueKind) -> Mem<Property> {
-    Ok(Property {
-        name: Text::of(alloc, name)?,
-        kind,
-        required: false,
-        max: 3,
-    })
-}
-
-static PROPERTIES: [(&str, ValueKind); 5] = [
-    ("label", ValueKind::Words),
-    ("size", ValueKind::Whole),
-    ("place", ValueKind::Point),
-    ("lit", ValueKind::Truth),
-    ("other", ValueKind::Words),
+static PROPERTIES: [Named; 5] = [
+    ("label", ValueKind::Words, false),
+    ("size", ValueKind::Whole, false),
+    ("place", ValueKind::Point, false),
+    ("lit", ValueKind::Truth, false),
+    ("other", ValueKind::Words, false),
 ];
 
 // A type of marks: a label, a size, a place, whether it is lit, and another name.
-fn marks(alloc: Global) -> Mem<List<FeatureType>> {
-    let mut all = Vec::new(alloc);
-    for (name, kind) in PROPERTIES.iter() {
-        all.push(property(alloc, name, *kind)?)?;
-    }
-    let mut types = Vec::new(alloc);
-    types.push(FeatureType {
-        name: Text::of(alloc, "Mark")?,
-        properties: List::of(all),
-    })?;
-    Ok(List::of(types))
-}
-
 fn schema(alloc: Global) -> Mem<Schema> {
-    Ok(Schema {
-        title: Text::of(alloc, "Marks")?,
-        address: Text::of(alloc, "http://localhost:8080/wfs")?,
-        space: Text::of(alloc, "http://example.org/marks")?,
-        prefix: Text::of(alloc, "m")?,
-        srs: texts(alloc, &["urn:ogc:def:crs:EPSG::25832", "EPSG:25832"])?,
-        types: marks(alloc)?,
-    })
+    let mut types = Vec::new(alloc);
+    types.push(type_of(alloc, "Mark", &PROPERTIES, 3)?)?;
+    schema_of(alloc, List::of(types))
 }
 
 // ---- elements from words: `Name(` begins an element, `@name=value` is an attribute of it, `=text` its text, `)` ends
@@ -226,7 +192,7 @@ fn whole(alloc: Global, words: &str) -> Mem<Element> {
 
 // The parameters of stored texts.
 fn parameters(alloc: Global) -> Mem<List<Text>> {
-    texts(alloc, &["id", "text"])
+    words(alloc, &["id", "text"])
 }
 
 // The filter of an element, for the type of marks and with these parameters, if any are named.

@@ -1,4 +1,4 @@
-//! Documents, and the request or the refusal that the standard and the table of refusals name for each. The parts share a schema,
+//! Documents, and the request or the refusal that the standard and the table of refusals name for each. The parts share
 //! documents from texts, and how an answer is told.
 
 mod actions;
@@ -6,82 +6,14 @@ mod features;
 mod requests;
 mod told;
 
-use super::*;
+use crate::samples::schema;
 use doc_read::read_document;
 use doc_tree::Element;
-use feature_values::{FeatureType, Property, Schema, ValueKind};
+use feature_values::Schema;
 use std::alloc::Global;
 use told::answer_told;
-use wfs_ends::{List, Mem, Text};
-
-// ---- a schema
-
-static MARK: [(&str, ValueKind, bool); 3] = [
-    ("label", ValueKind::Words, true),
-    ("size", ValueKind::Whole, false),
-    ("place", ValueKind::Point, false),
-];
-
-static FIELD: [(&str, ValueKind, bool); 2] = [
-    ("name", ValueKind::Words, false),
-    ("area", ValueKind::Polygon, false),
-];
-
-static WAY: [(&str, ValueKind, bool); 1] = [("course", ValueKind::Line, true)];
-
-static LAMP: [(&str, ValueKind, bool); 2] = [
-    ("lit", ValueKind::Truth, true),
-    ("kind", ValueKind::Words, true),
-];
-
-fn property(alloc: Global, name: &str, kind: ValueKind, required: bool) -> Mem<Property> {
-    Ok(Property {
-        name: Text::of(alloc, name)?,
-        kind,
-        required,
-        max: 40,
-    })
-}
-
-fn of_type(alloc: Global, name: &str, properties: &[(&str, ValueKind, bool)]) -> Mem<FeatureType> {
-    let mut all = Vec::new(alloc);
-    for (name, kind, required) in properties {
-        all.push(property(alloc, name, *kind, *required)?)?;
-    }
-    Ok(FeatureType {
-        name: Text::of(alloc, name)?,
-        properties: List::of(all),
-    })
-}
-
-fn types(alloc: Global) -> Mem<List<FeatureType>> {
-    let mut all = Vec::new(alloc);
-    all.push(of_type(alloc, "Mark", &MARK)?)?;
-    all.push(of_type(alloc, "Field", &FIELD)?)?;
-    all.push(of_type(alloc, "Way", &WAY)?)?;
-    all.push(of_type(alloc, "Lamp", &LAMP)?)?;
-    Ok(List::of(all))
-}
-
-fn names(alloc: Global) -> Mem<List<Text>> {
-    let mut all = Vec::new(alloc);
-    all.push(Text::of(alloc, "urn:ogc:def:crs:EPSG::25832")?)?;
-    all.push(Text::of(alloc, "EPSG:25832")?)?;
-    Ok(List::of(all))
-}
-
-fn schema(alloc: Global) -> Mem<Schema> {
-    Ok(Schema {
-        title: Text::of(alloc, "Marks")?,
-        address: Text::of(alloc, "http://localhost:8080/wfs")?,
-        space: Text::of(alloc, "http://example.org/marks")?,
-        prefix: Text::of(alloc, "m")?,
-        srs: names(alloc)?,
-        types: types(alloc)?,
-    })
-}
-
-// ---- documents
+use wfs_ends::Mem;
+use wfs_requests::read_request;
 
 // The first element in the root of a document, as a request.
 fn first_told(alloc: Global, schema: &Schema, root: &Element) -> Mem<String> {

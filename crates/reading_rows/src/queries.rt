@@ -1,77 +1,17 @@
-//! Queries as documents give them. The parts share a schema, elements from texts, and how an answer is told.
+//! Queries as documents give them. The parts share elements from texts, and how an answer is told.
 
 mod refusals;
 mod texts;
 
-use super::*;
+use crate::samples::{fault_told, schema, words};
 use doc_read::read_document;
 use doc_tree::Element;
-use feature_values::{FeatureType, Property, Schema, ValueKind};
+use feature_values::Schema;
 use fes_filter::Query;
+use query_docs::{StoredTextFault, read_asked, read_definition, read_text, text_of};
 use std::alloc::Global;
 use wfs_ends::{List, Mem, Text};
-use wfs_model::{AskFault, Asked, StoredQuery};
-
-// ---- a schema
-
-fn words(alloc: Global, words: &[&str]) -> Mem<List<Text>> {
-    let mut all = Vec::new(alloc);
-    for word in words {
-        all.push(Text::of(alloc, word)?)?;
-    }
-    Ok(List::of(all))
-}
-
-fn property(alloc: Global, name: &str, kind: ValueKind) -> Mem<Property> {
-    Ok(Property {
-        name: Text::of(alloc, name)?,
-        kind,
-        required: false,
-        max: 40,
-    })
-}
-
-static PROPERTIES: [(&str, ValueKind); 3] = [
-    ("label", ValueKind::Words),
-    ("size", ValueKind::Whole),
-    ("place", ValueKind::Point),
-];
-
-// A type, Mark, with a label, a size and a place.
-fn marks(alloc: Global) -> Mem<List<FeatureType>> {
-    let mut all = Vec::new(alloc);
-    for (name, kind) in PROPERTIES.iter() {
-        all.push(property(alloc, name, *kind)?)?;
-    }
-    let mut types = Vec::new(alloc);
-    types.push(FeatureType {
-        name: Text::of(alloc, "Mark")?,
-        properties: List::of(all),
-    })?;
-    Ok(List::of(types))
-}
-
-fn schema(alloc: Global) -> Mem<Schema> {
-    Ok(Schema {
-        title: Text::of(alloc, "Marks")?,
-        address: Text::of(alloc, "http://localhost:8080/wfs")?,
-        space: Text::of(alloc, "http://example.org/marks")?,
-        prefix: Text::of(alloc, "m")?,
-        srs: words(alloc, &["urn:ogc:def:crs:EPSG::25832", "EPSG:25832"])?,
-        types: marks(alloc)?,
-    })
-}
-
-// ---- what is read
-
-fn refused(alloc: Global, fault: &AskFault) -> Mem<String> {
-    match fault {
-        AskFault::Refused(refusal) => {
-            Ok(format!(in alloc; "{} {}", refusal.row, refusal.locator.as_str())?)
-        }
-        AskFault::OutOfMemory => Ok(format!(in alloc; "no memory")?),
-    }
-}
+use wfs_model::{Asked, StoredQuery};
 
 fn one(alloc: Global, query: &Query) -> Mem<List<Query>> {
     let mut queries = Vec::new(alloc);
@@ -126,14 +66,14 @@ fn stored_shown(alloc: Global, stored: &StoredQuery) -> Mem<String> {
 fn asked_told(alloc: Global, schema: &Schema, element: &Element) -> Mem<String> {
     match read_asked(alloc, element, schema) {
         Ok(asked) => asked_shown(alloc, schema, &asked),
-        Err(fault) => refused(alloc, &fault),
+        Err(fault) => fault_told(alloc, &fault),
     }
 }
 
 fn stored_told(alloc: Global, schema: &Schema, element: &Element) -> Mem<String> {
     match read_definition(alloc, element, schema) {
         Ok(stored) => stored_shown(alloc, &stored),
-        Err(fault) => refused(alloc, &fault),
+        Err(fault) => fault_told(alloc, &fault),
     }
 }
 

@@ -1,5 +1,6 @@
 //! How the tests tell a request: in one line, by what stands in it.
 
+use crate::samples::fault_told;
 use feature_values::{Feature, Value};
 use geom_core::Geometry;
 use lock_table::{LockId, Release};
@@ -320,9 +321,6 @@ fn told(alloc: Global, request: &Request) -> Mem<String> {
 pub(super) fn answer_told(alloc: Global, answer: &Result<Request, AskFault>) -> Mem<String> {
     match answer {
         Ok(request) => told(alloc, request),
-        Err(AskFault::Refused(refusal)) => {
-            Ok(format!(in alloc; "{} {}", refusal.row, refusal.locator.as_str())?)
-        }
-        Err(AskFault::OutOfMemory) => Ok(String::new(alloc)),
+        Err(fault) => fault_told(alloc, fault),
     }
 }

@@ -1,6 +1,6 @@
 //! Documents, and the trees or faults that XML 1.0 and Namespaces in XML 1.0 give, written by hand from these.
 
-use super::*;
+use doc_read::{DocFault, read_document};
 use doc_tree::{Attribute, Element, QName};
 use std::alloc::Global;
 use wfs_ends::Mem;

@@ -1,0 +1,15 @@
+//! Rows of the readers: what documents, filters, queries and requests are read as, or the refusal that the standards name.
+#![tactic(auto)]
+
+#[cfg(test)]
+mod documents;
+#[cfg(test)]
+mod filters;
+#[cfg(test)]
+mod key_values;
+#[cfg(test)]
+mod queries;
+#[cfg(test)]
+mod requests;
+#[cfg(test)]
+mod samples;
