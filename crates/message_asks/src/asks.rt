@@ -1,11 +1,14 @@
 //! What a message asks: its path is judged first, then its method, then its query or its document.
 
-ghost use Rattle.std.specs.Prelude.{◌≡◌, IfOk};
+ghost use Rattle.std.specs.Prelude.{◌≡◌, All, IfOk};
 ghost use Rattle.wfs_ends.specs.Read.{GivesBut};
 ghost use Rattle.doc_read.specs.Document.{document};
-ghost use Rattle.wfs_model.specs.OfSchema.{IsOfSchema};
+ghost use Rattle.feature_schema.specs.Rules.{KeepsRules};
+ghost use Rattle.query_docs.specs.Reading.{IsKeptText};
+ghost use Rattle.wfs_model.specs.OfSchema.{IsOfSchema, stored_in};
 ghost use Rattle.message_asks.specs.Asks.{is_service_path, is_get, is_post, path_of, query_of, posted, asked};
 
+use doc_laws::in_document;
 use doc_read::{DocFault, read_document};
 use feature_values::Schema;
 use http_session::Message;
@@ -43,9 +46,13 @@ pub fn split_target(target: &str) -> (&str, &str)
 fn read_posted(alloc: Global, body: &[u8], schema: &Schema) -> Result<Request, AskFault>
     ensures read { GivesBut AskFault.OutOfMemory (λ r. r) result (posted (document body.now) schema.now) }
     ensures of_schema { IfOk result (λ r. IsOfSchema schema.now r) }
+    ensures kept { KeepsRules schema.now → IfOk result (λ r. All (IsKeptText schema.now) (stored_in r)) }
 {
     match read_document(alloc, body) {
-        Ok(root) => read_request(alloc, &root, schema),
+        Ok(root) => {
+            in_document();
+            read_request(alloc, &root, schema)
+        }
         Err(DocFault::OutOfMemory) => Err(AskFault::OutOfMemory),
         Err(_) => Err(refused(alloc, 7, "document")),
     }
@@ -61,6 +68,8 @@ fn read_posted(alloc: Global, body: &[u8], schema: &Schema) -> Result<Request, A
 pub fn read_asked(alloc: Global, message: &Message, schema: &Schema) -> Result<Request, AskFault>
     ensures read { GivesBut AskFault.OutOfMemory (λ r. r) result (asked message.now schema.now) }
     ensures of_schema { IfOk result (λ r. IsOfSchema schema.now r) }
+    // The texts of stored queries read back, where the schema is one of a schema file.
+    ensures kept { KeepsRules schema.now → IfOk result (λ r. All (IsKeptText schema.now) (stored_in r)) }
 {
     let (path, query) = split_target(message.target.as_str());
     if !is_service_path(path.as_bytes()) {

@@ -9,7 +9,7 @@ use Rattle.http_session.specs.declared.message.Message.{Message}
 use Rattle.http_session.specs.declared.message.Next.TheVariants as next
 use Rattle.http_session.specs.Frames.{ended, IsNext}
 use Rattle.http_session.specs.Reading.{ahead, after_buffer, Reached, IsCalm}
-use Rattle.http_session.specs.Answers.{Reads, Answers, interim}
+use Rattle.http_session.specs.Answers.{Reads, Answers, GaveAll, interim}
 use Rattle.reply_documents.specs.Refusals.{fixed_text}
 use Rattle.session_workers.specs.declared.answered.Answered.{Answered}
 use Rattle.session_workers.specs.declared.ending.SessionEnd.TheVariants as end
@@ -17,7 +17,7 @@ use Rattle.session_workers.specs.declared.round.Round.{Round}
 use Rattle.session_workers.specs.declared.round.Round.TheVariants as round
 use Rattle.session_workers.specs.declared.service.Service.{Ghosts as Meaning}
 use Rattle.session_workers.specs.Answers.{answer_text}
-use Rattle.session_workers.specs.Session.{Point, IsAnswered, final, final_at, final_with, row_of, input_ended, input_cut, refused, answered, read_failed, line_failed, answer_failed, refusal_failed, no_memory, memory_failed, Stays, Becomes, IsAt, GoesOn, IsOver}
+use Rattle.session_workers.specs.Session.{Point, IsAnswered, final, final_at, final_with, row_of, input_ended, input_cut, refused, answered, read_failed, line_failed, answer_failed, refusal_failed, no_memory, memory_failed, Stays, IsWritable, Becomes, IsAt, GoesOn, IsOver}
 use Rattle.session_workers.specs.Rounds.{Replies, IsRound, round_of, IsRefused, IsGivenUp}
 
 -- ---- what was given
@@ -78,7 +78,7 @@ module _ {S : Type 0} (mean : Meaning S) (service : S) (last : Bool) (b : List �
       }
 
       all_given : GivesAll s1 (text_of replies.answer) s2 → s2.given ≡ given_more first (p.given ++ (interim reads.due ++ text_of replies.answer))
-      all_given g = given_behind first s0.given s1.given s2.given p.given (interim reads.due) (text_of replies.answer) at.given reads.written g.given
+      all_given g = given_behind first s0.given s1.given s2.given p.given (interim reads.due) (text_of replies.answer) at.given reads.written.given g.given
 
       goes_on : GivesAll s1 (text_of replies.answer) s2 → false ≡ (m.close || last) → GoesOn mean first p b' s2 c' service' (left - 1)
       goes_on g e = record {
@@ -109,7 +109,7 @@ module _ {S : Type 0} (mean : Meaning S) (service : S) (last : Bool) (b : List �
         final = final_with end.WriteFault (behind p reads.due found.0 service' (text_of replies.answer)) (p.given ++ (interim reads.due ++ g.front));
         finishes = answer_failed (m.close || last) (behind p reads.due found.0 service' (text_of replies.answer)) (interim reads.due ++ g.front) (is_answered (m.close || last) refl) (record { rest = g.rest; parts = front_begins p.given (interim reads.due) (text_of replies.answer) g.front g.rest g.parts });
         end = refl;
-        given = given_behind first s0.given s1.given s2.given p.given (interim reads.due) g.front at.given reads.written g.given;
+        given = given_behind first s0.given s1.given s2.given p.given (interim reads.due) g.front at.given reads.written.given g.given;
         serves = refl;
         coming = replies.later ∙ ap later at.coming;
         left = tt;
@@ -118,25 +118,28 @@ module _ {S : Type 0} (mean : Meaning S) (service : S) (last : Bool) (b : List �
   calm_read : IsCalm s0 s1
   calm_read = reads.calm (λ e. absurd cc)
 
+  writable_read : IsWritable s0 s1
+  writable_read = reads.written.calm
+
   pub answered_round : (r : Result Bool WriteFault) (service' : S) (c' : Option (List ℕ)) (s2 : Shown) → Replies mean service m last c s1 r service' c' s2 → IsRound mean last b s0 c service (round_of r) b' s2 c' service'
   answered_round (Ok false) service' c' s2 replies = record {
     stays = stays_on s0 s1 s2 reads.stays.takes reads.stays.puts reads.stays.place replies.gives.0.keeps;
     cause = not_last m.close last (sym replies.gives.1);
-    calm = replies.gives.0.keeps.takes ∙ calm_read;
+    calm = (replies.gives.0.keeps.takes ∙ calm_read, replies.gives.0.calm ∙ writable_read);
     becomes = replies.becomes;
     told = λ first p left is_last at. goes_on (Ok false) service' c' s2 replies first p left is_last at replies.gives.0 replies.gives.1;
   }
   answered_round (Ok true) service' c' s2 replies = record {
     stays = stays_on s0 s1 s2 reads.stays.takes reads.stays.puts reads.stays.place replies.gives.0.keeps;
     cause = tt;
-    calm = λ other. replies.gives.0.keeps.takes ∙ calm_read;
+    calm = ((λ other. replies.gives.0.keeps.takes ∙ calm_read), λ other. replies.gives.0.calm ∙ writable_read);
     becomes = replies.becomes;
     told = λ first p left is_last at. is_over (Ok true) service' c' s2 replies first p left is_last at replies.gives.0 replies.gives.1;
   }
   answered_round (Err fault) service' c' s2 replies = record {
     stays = stays_on s0 s1 s2 reads.stays.takes reads.stays.puts reads.stays.place replies.gives.keeps;
     cause = omega (arith, reads.stays.puts, replies.gives.cause);
-    calm = λ other. replies.gives.keeps.takes ∙ calm_read;
+    calm = ((λ other. replies.gives.keeps.takes ∙ calm_read), λ other. absurd (other refl));
     becomes = replies.becomes;
     told = λ first p left is_last at. failed (Err fault) service' c' s2 replies first p left is_last at replies.gives;
   }
@@ -165,13 +168,13 @@ module _ {S : Type 0} (mean : Meaning S) (service : S) (becomes : Becomes mean s
   ended_round reads = record {
     stays = record { takes = reads.stays.takes; puts = reads.stays.puts; place = reads.stays.place };
     cause = tt;
-    calm = λ other. reads.calm (λ e. absurd cc);
+    calm = ((λ other. reads.calm (λ e. absurd cc)), λ other. reads.written.calm);
     becomes = becomes;
     told = λ first p left is_last at. record {
       final = final end.Ended p (interim reads.due);
       finishes = input_ended reads.due (rw at.bytes at reads.answers);
       end = refl;
-      given = given_line first s0.given s1.given p.given (interim reads.due) at.given reads.written;
+      given = given_line first s0.given s1.given p.given (interim reads.due) at.given reads.written.given;
       serves = sym at.serves;
       coming = at.coming;
       left = tt;
@@ -182,13 +185,13 @@ module _ {S : Type 0} (mean : Meaning S) (service : S) (becomes : Becomes mean s
   cut_round reads = record {
     stays = record { takes = reads.stays.takes; puts = reads.stays.puts; place = reads.stays.place };
     cause = tt;
-    calm = λ other. reads.calm (λ e. absurd cc);
+    calm = ((λ other. reads.calm (λ e. absurd cc)), λ other. reads.written.calm);
     becomes = becomes;
     told = λ first p left is_last at. record {
       final = final end.Cut p (interim reads.due);
       finishes = input_cut reads.due (rw at.bytes at reads.answers);
       end = refl;
-      given = given_line first s0.given s1.given p.given (interim reads.due) at.given reads.written;
+      given = given_line first s0.given s1.given p.given (interim reads.due) at.given reads.written.given;
       serves = sym at.serves;
       coming = at.coming;
       left = tt;
@@ -199,7 +202,7 @@ module _ {S : Type 0} (mean : Meaning S) (service : S) (becomes : Becomes mean s
   read_failed_round reads = record {
     stays = record { takes = reads.stays.takes; puts = reads.stays.puts; place = reads.stays.place };
     cause = reads.written.1;
-    calm = λ other. absurd (other refl);
+    calm = ((λ other. absurd (other refl)), λ other. reads.written.0.calm);
     becomes = becomes;
     told = λ first p left is_last at.
         let behind = parted p.bytes _ s1 reads.breaks.0 at.bytes in
@@ -207,7 +210,7 @@ module _ {S : Type 0} (mean : Meaning S) (service : S) (becomes : Becomes mean s
           final = final_at end.ReadFault p (interim reads.due) behind.rest;
           finishes = read_failed reads.breaks.0.taken behind.rest reads.due behind.parts reads.breaks.1;
           end = refl;
-          given = given_line first s0.given s1.given p.given (interim reads.due) at.given reads.written.0;
+          given = given_line first s0.given s1.given p.given (interim reads.due) at.given reads.written.0.given;
           serves = sym at.serves;
           coming = at.coming;
           left = behind.is;
@@ -218,7 +221,7 @@ module _ {S : Type 0} (mean : Meaning S) (service : S) (becomes : Becomes mean s
   line_failed_round reads = let gave = reads.written.1 in record {
     stays = record { takes = reads.stays.takes; puts = reads.stays.puts; place = reads.stays.place };
     cause = gave.cause;
-    calm = λ other. reads.calm (λ e. absurd cc);
+    calm = ((λ other. reads.calm (λ e. absurd cc)), λ other. absurd (other refl));
     becomes = becomes;
     told = λ first p left is_last at.
         let behind = parted p.bytes _ s1 reads.breaks.0 at.bytes in
@@ -233,18 +236,18 @@ module _ {S : Type 0} (mean : Meaning S) (service : S) (becomes : Becomes mean s
         };
   }
 
-  module _ (e : Ending) (row : ℕ) (is_row : row_of e ≡ Some row) (due : Bool) (is_next : IfSome (ahead b s0) (λ bytes. IsNext bytes (ended e due))) (written : s1.given ≡ given_more s0.given (interim due)) (takes : s0.failed_takes ≤ s1.failed_takes) (puts : s0.failed_puts ≤ s1.failed_puts) (place : s1.place ≡ s0.place) (calm : IsCalm s0 s1) where
+  module _ (e : Ending) (row : ℕ) (is_row : row_of e ≡ Some row) (due : Bool) (is_next : IfSome (ahead b s0) (λ bytes. IsNext bytes (ended e due))) (written : GaveAll s0 (interim due) s1) (takes : s0.failed_takes ≤ s1.failed_takes) (puts : s0.failed_puts ≤ s1.failed_puts) (place : s1.place ≡ s0.place) (calm : IsCalm s0 s1) where
     pub refused_round : (r : Round) (s2 : Shown) → IsRefused row s1 r s2 → IsRound mean last b s0 c service r b' s2 c service
     refused_round (round.Over end.Unframed) s2 g = record {
       stays = stays_on s0 s1 s2 takes puts place g.keeps;
       cause = tt;
-      calm = λ other. g.keeps.takes ∙ calm;
+      calm = ((λ other. g.keeps.takes ∙ calm), λ other. g.calm ∙ written.calm);
       becomes = becomes;
       told = λ first p left is_last at. record {
         final = final end.Unframed p (interim due ++ fixed_text row true);
         finishes = refused e due row (rw at.bytes at is_next) is_row;
         end = refl;
-        given = given_behind first s0.given s1.given s2.given p.given (interim due) (fixed_text row true) at.given written g.given;
+        given = given_behind first s0.given s1.given s2.given p.given (interim due) (fixed_text row true) at.given written.given g.given;
         serves = sym at.serves;
         coming = at.coming;
         left = tt;
@@ -253,13 +256,13 @@ module _ {S : Type 0} (mean : Meaning S) (service : S) (becomes : Becomes mean s
     refused_round (round.Over end.WriteFault) s2 g = record {
       stays = stays_on s0 s1 s2 takes puts place g.keeps;
       cause = omega (arith, puts, g.cause);
-      calm = λ other. g.keeps.takes ∙ calm;
+      calm = ((λ other. g.keeps.takes ∙ calm), λ other. absurd (other refl));
       becomes = becomes;
       told = λ first p left is_last at. record {
         final = final end.WriteFault p (interim due ++ g.front);
         finishes = refusal_failed e due row g.front (rw at.bytes at is_next) is_row (record { rest = g.rest; parts = g.parts });
         end = refl;
-        given = given_behind first s0.given s1.given s2.given p.given (interim due) g.front at.given written g.given;
+        given = given_behind first s0.given s1.given s2.given p.given (interim due) g.front at.given written.given g.given;
         serves = sym at.serves;
         coming = at.coming;
         left = tt;
@@ -277,7 +280,7 @@ module _ {S : Type 0} (mean : Meaning S) (service : S) (becomes : Becomes mean s
     gave_up_round (round.Over end.NoMemory) s2 g = record {
       stays = stays_on s0 s1 s2 reads.stays.takes reads.stays.puts reads.stays.place g.keeps;
       cause = tt;
-      calm = λ other. g.keeps.takes ∙ reads.calm (λ e. absurd cc);
+      calm = ((λ other. g.keeps.takes ∙ reads.calm (λ e. absurd cc)), λ other. g.calm ∙ reads.written.calm);
       becomes = becomes;
       told = λ first p left is_last at.
           let behind = parted p.bytes _ s1 reads.breaks.0 at.bytes in
@@ -285,7 +288,7 @@ module _ {S : Type 0} (mean : Meaning S) (service : S) (becomes : Becomes mean s
             final = final_at end.NoMemory p (interim reads.due ++ fixed_text 27 true) behind.rest;
             finishes = no_memory reads.breaks.0.taken behind.rest reads.due behind.parts reads.breaks.1;
             end = refl;
-            given = given_behind first s0.given s1.given s2.given p.given (interim reads.due) (fixed_text 27 true) at.given reads.written g.given;
+            given = given_behind first s0.given s1.given s2.given p.given (interim reads.due) (fixed_text 27 true) at.given reads.written.given g.given;
             serves = sym at.serves;
             coming = at.coming;
             left = g.keeps.left ∙ behind.is;
@@ -294,7 +297,7 @@ module _ {S : Type 0} (mean : Meaning S) (service : S) (becomes : Becomes mean s
     gave_up_round (round.Over end.WriteFault) s2 g = record {
       stays = stays_on s0 s1 s2 reads.stays.takes reads.stays.puts reads.stays.place g.keeps;
       cause = omega (arith, reads.stays.puts, g.cause);
-      calm = λ other. g.keeps.takes ∙ reads.calm (λ e. absurd cc);
+      calm = ((λ other. g.keeps.takes ∙ reads.calm (λ e. absurd cc)), λ other. absurd (other refl));
       becomes = becomes;
       told = λ first p left is_last at.
           let behind = parted p.bytes _ s1 reads.breaks.0 at.bytes in
@@ -302,7 +305,7 @@ module _ {S : Type 0} (mean : Meaning S) (service : S) (becomes : Becomes mean s
             final = final_at end.WriteFault p (interim reads.due ++ g.front) behind.rest;
             finishes = memory_failed reads.breaks.0.taken behind.rest reads.due g.front behind.parts reads.breaks.1 (record { rest = g.rest; parts = g.parts });
             end = refl;
-            given = given_behind first s0.given s1.given s2.given p.given (interim reads.due) g.front at.given reads.written g.given;
+            given = given_behind first s0.given s1.given s2.given p.given (interim reads.due) g.front at.given reads.written.given g.given;
             serves = sym at.serves;
             coming = at.coming;
             left = g.keeps.left ∙ behind.is;

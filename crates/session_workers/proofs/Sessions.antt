@@ -8,7 +8,7 @@ use Rattle.session_workers.specs.declared.ending.SessionEnd.{SessionEnd}
 use Rattle.session_workers.specs.declared.ending.SessionEnd.TheVariants as end
 use Rattle.session_workers.specs.declared.round.Round.TheVariants as round
 use Rattle.session_workers.specs.declared.service.Service.{Ghosts as Meaning}
-use Rattle.session_workers.specs.Session.{Point, begun, most_messages, Reaches, here, on, Stays, HasCause, Becomes, WhereTold, IsSession, IsAt}
+use Rattle.session_workers.specs.Session.{Point, begun, most_messages, Reaches, here, on, Stays, HasCause, IsWritable, Becomes, WhereTold, IsSession, IsAt}
 use Rattle.session_workers.specs.Rounds.{IsRound}
 
 -- ---- what is told
@@ -38,7 +38,7 @@ pub record Stands {S : Type 0} (mean : Meaning S) (input ms : List ℕ) (first :
 pub record UnderWay {S : Type 0} (mean : Meaning S) (c0 : Option (List ℕ)) (first : S) (s0 : Shown) (buffered : List ℕ) (s : Shown) (moments : Option (List ℕ)) (service : S) (left : ℕ) : Type 0 where
   pub some : 0 < left
   pub stays : Stays s0 s
-  pub calm : IsCalm s0 s
+  pub calm : IsCalm s0 s × IsWritable s0 s
   pub becomes : Becomes mean first service
   pub told : WhereTold c0 s0 (λ input ms. Stands mean input ms first s0 buffered s moments service left)
 
@@ -50,7 +50,7 @@ pub begins_session : {S : Type 0} (mean : Meaning S) (c0 : Option (List ℕ)) (f
 begins_session mean c0 first s0 buffered leads e = record {
   some = omega arith;
   stays = record { takes = omega arith; puts = omega arith; place = refl };
-  calm = refl;
+  calm = (refl, refl);
   becomes = stays_so mean first leads;
   told = told_is c0 s0 (λ input ms is_input is_ms. record {
     point = begun input ms first;
@@ -82,7 +82,7 @@ module _ {S : Type 0} (mean : Meaning S) (follows : (x y z : S) → mean.leads x
   goes_on r = record {
     some = not_one left r.cause way.some;
     stays = stays_twice s0 s s' way.stays r.stays;
-    calm = r.calm ∙ way.calm;
+    calm = (r.calm.0 ∙ way.calm.0, r.calm.1 ∙ way.calm.1);
     becomes = became r.becomes;
     told = told_map c0 s0 (λ input ms stands.
         let went = r.told s0.given stands.point left refl stands.at in
@@ -92,7 +92,7 @@ module _ {S : Type 0} (mean : Meaning S) (follows : (x y z : S) → mean.leads x
   pub is_over : (e : SessionEnd) → IsRound mean (left == 1) b s c service (round.Over e) b' s' c' service' → IsSession mean c0 first s0 e service' c' s'
   is_over e r = record {
     cause = cause_before e s0 s s' way.stays r.cause;
-    calm = λ other. r.calm other ∙ way.calm;
+    calm = ((λ other. r.calm.0 other ∙ way.calm.0), λ other. r.calm.1 other ∙ way.calm.1);
     place = (stays_twice s0 s s' way.stays r.stays).place;
     becomes = became r.becomes;
     told = told_map c0 s0 (λ input ms stands.

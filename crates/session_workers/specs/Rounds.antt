@@ -11,7 +11,7 @@ use Rattle.session_workers.specs.declared.round.Round.{Round}
 use Rattle.session_workers.specs.declared.round.Round.TheVariants as round
 use Rattle.session_workers.specs.declared.service.Service.{Ghosts as Meaning}
 use Rattle.session_workers.specs.Answers.{answer_text}
-use Rattle.session_workers.specs.Session.{Point, Stays, HasCause, IsCalmBut, Becomes, IsAt, GoesOn, IsOver}
+use Rattle.session_workers.specs.Session.{Point, Stays, HasCause, IsWritable, IsCalmBut, Becomes, IsAt, GoesOn, IsOver}
 
 -- an answer was given, with whether it closes the session, or a front of it, and then the output failed
 abbrev pub GivesAnswer : Result Bool WriteFault → Shown → List ℕ → Bool → Shown → Type 0
@@ -38,7 +38,7 @@ RoundCause round.On last old new = last ≡ false
 RoundCause (round.Over e) last old new = HasCause e old new
 
 abbrev pub IsCalmRound : Round → Shown → Shown → Type 0
-IsCalmRound round.On old new = IsCalm old new
+IsCalmRound round.On old new = IsCalm old new × IsWritable old new
 IsCalmRound (round.Over e) old new = IsCalmBut e old new
 
 -- a round: the last one goes on in no case

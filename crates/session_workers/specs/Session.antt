@@ -126,9 +126,14 @@ HasCause end.Unframed old new = ⊤
 HasCause end.Cut old new = ⊤
 HasCause end.NoMemory old new = ⊤
 
--- a take failed in no session that ended otherwise than by a read fault
+-- no put failed in between
+abbrev pub IsWritable : Shown → Shown → Type 0
+IsWritable old new = new.failed_puts ≡ old.failed_puts
+
+-- A take failed in no session that ended otherwise than by a read fault, and a put in none that ended otherwise than by a write
+-- fault.
 abbrev pub IsCalmBut : SessionEnd → Shown → Shown → Type 0
-IsCalmBut e old new = (e ≡ end.ReadFault → ⊥) → IsCalm old new
+IsCalmBut e old new = ((e ≡ end.ReadFault → ⊥) → IsCalm old new) × ((e ≡ end.WriteFault → ⊥) → IsWritable old new)
 
 -- what became of a service: what always may, and its schema is the same
 pub record Becomes {S : Type 0} (mean : Meaning S) (service service' : S) : Type 0 where

@@ -10,12 +10,14 @@ mod gate;
 mod hold;
 mod round;
 mod service;
+mod solo;
 
 pub use answered::Answered;
 pub use ending::SessionEnd;
 pub use gate::{Gate, GatePoint, NoGate};
 pub use hold::session;
 pub use service::Service;
+pub use solo::solo_session;
 
 #[cfg(test)]
 mod tests;

@@ -2,18 +2,22 @@
 
 use service_state::PrepareFault;
 use std::alloc::AllocError;
+use thiserror::Error;
 use wfs_ends::OutOfMemory;
 use wfs_model::FullAt;
 
 /// A step came to nothing: state and history are as before.
-#[derive(Clone, Copy, Debug, PartialEq, Eq)]
+#[derive(Clone, Copy, Debug, PartialEq, Eq, Error)]
 pub enum StepFault {
     /// A disk failed while the step's change was written. A crash may leave the change made, or the one that was begun before; the next
     /// step that has a change ends what is begun.
+    #[error("a disk failed while the change was written")]
     StoreFault,
     /// The entry would pass a limit: this one first.
+    #[error("a limit would be passed")]
     Full(FullAt),
     /// Memory ran out, before any disk was asked.
+    #[error("out of memory")]
     OutOfMemory,
 }
 

@@ -4,6 +4,7 @@ ghost use Rattle.std.specs.Prelude.{◌≡◌, ◌≤◌, [], All, IfOk, length}
 ghost use Rattle.std.specs.Option.{option_map};
 ghost use Rattle.disk_core.specs.Sides.{EveryBoth};
 ghost use Rattle.durable_journal.specs.Standing.{SaysWith};
+ghost use Rattle.feature_schema.specs.Rules.{KeepsRules};
 ghost use Rattle.query_docs.specs.Reading.{IsKeptText};
 ghost use Rattle.wfs_model.specs.Changing.{IsChange};
 ghost use Rattle.wfs_model.specs.OfSchema.{IsOfSchema, stored_in};
@@ -21,6 +22,7 @@ use crate::course::Course;
 use crate::stepping::take_step;
 use disk_core::{Disk, Pair};
 use feature_journal::Journal;
+use feature_values::Schema;
 use feature_versions::Features;
 use journal_replay::Bodies;
 use std::marker::Model;
@@ -98,6 +100,14 @@ impl<D: Disk> Store<D> {
         ensures { result ≡ length self.now.entries }
     {
         self.course.history.len() as u64
+    }
+
+    /// The schema that it serves, which keeps the rules of a schema file.
+    pub fn schema(&self) -> &Schema
+        ensures schema { result.now ≡ self.now.schema }
+        ensures rules { KeepsRules self.now.schema }
+    {
+        self.course.state.features().schema()
     }
 
     /// What outlives the process.
