@@ -1,0 +1,285 @@
+-- What a turn comes to for the seat that took it.
+use Rattle.std.proofs.Common.{◌≡◌, ◌≢◌, ℕ, ◌+◌, ◌<◌, ◌≤◌, min, set, List, [], ◌∷◌, ◌++◌, length, get_or, replicate, Result, Ok, Err, refl, sym, ap, ◌∙◌, subst, arith, inl, inr}
+use Rattle.std.specs.Prelude.{⊤, All}
+use Rattle.std.proofs.lemmas.List.{append-nil, get_or-set_same, length-replicate, length-append}
+use Rattle.std.proofs.lemmas.List.Elements.{All-nil}
+use mathlib.Core.List.{IsPrefix}
+use Rattle.http_session.specs.declared.message.Message.{Message}
+use Rattle.feature_values.specs.declared.schema.Schema.{Schema}
+use Rattle.message_asks.specs.Asks.{asked}
+use Rattle.message_asks.specs.Verdicts.{entry_of}
+use Rattle.session_workers.specs.declared.answered.Answered.{Answered}
+use Rattle.session_workers.specs.declared.answered.Answered.TheVariants as answered
+use Rattle.store_turns.specs.declared.counter.Counter.{Counter}
+use Rattle.store_turns.specs.Knowing.{Known, KeepsPlaces, HasSeenLegal, RisesTo, KnowsMore}
+use Rattle.store_turns.specs.Openings.{HasLegalHistory, having, tally_of, StaysOpen, IsOneOf}
+use Rattle.store_turns.specs.Seats.{IsOfOpening}
+use Rattle.store_turns.specs.Turns.{seat_of, Finds, finding, Comes, answer_of, Answers, by_bytes, stepped, only_read, no_memory}
+use Rattle.turnstile_core.specs.Places.{places_of}
+use Rattle.turnstile_core.specs.Steps.{OpensAll, HasAll, grown, tallied}
+use Rattle.turnstile_core.specs.declared.kept.Kept.{Ghosts as Meaning}
+use Rattle.turnstile_core.specs.declared.seat.Turn.{Turn}
+use Rattle.store_turns.proofs.Places.{prefix_self, prefix_longer, places_own}
+use Rattle.wfs_ends.specs.Ends.{risen, last_count}
+use Rattle.wfs_ends.specs.Read.{GivesBut, FailsBut}
+use Rattle.wfs_model.specs.declared.entry.Entry.{Entry}
+use Rattle.wfs_model.specs.declared.fault.AskFault.{AskFault}
+use Rattle.wfs_model.specs.declared.fault.AskFault.TheVariants as ask
+use Rattle.wfs_model.specs.declared.reply.Refusal.{Refusal}
+use Rattle.wfs_model.specs.declared.reply.Reply.{Reply}
+use Rattle.wfs_model.specs.declared.reply.Reply.TheVariants.{Refused}
+use Rattle.wfs_model.specs.declared.request.Request.{Request}
+use Rattle.wfs_model.specs.Changing.{IsChange}
+use Rattle.query_docs.specs.Reading.{IsKeptText}
+use Rattle.wfs_model.specs.OfSchema.{IsOfSchema, stored_in}
+use Rattle.wfs_model.specs.Read.{read}
+use Rattle.wfs_model.specs.State.{clamped}
+use Rattle.wfs_store.specs.declared.fault.StepFault.{StepFault}
+use Rattle.wfs_store.specs.declared.fault.StepFault.TheVariants as fault
+use Rattle.wfs_store.specs.Held.{Held, kept_of}
+use Rattle.wfs_store.specs.Past.{IsHistory}
+use Rattle.wfs_store.specs.Stepped.{SameOpening, IsStepOf, taken_up}
+
+same_head : {A : Type 0} (l : List A) (a b : A) → l ≡ a ∷ [] → l ≡ b ∷ [] → a ≡ b
+same_head l a b e f = cc
+
+-- the opening that a seat keeps is that of the first value
+opened_by : {A : Type 0} (opening : A → A → Type 0) (l : List A) (a x : A) → l ≡ a ∷ [] → OpensAll opening l x → opening a x
+opened_by {A} opening l a x e h = let at : OpensAll opening (a ∷ []) x = subst (λ (m : List A). OpensAll opening m x) e h in at.0
+
+-- what a seat finds in its turn
+pub record Found {D : Type 0} (faults : D → ℕ) (p : Known D) (x : Held D) : Type 0 where
+  pub finds : Finds p x.entries
+  pub tally : tally_of x p.number ≡ p.tally
+  pub opened : (first : Counter D) → p.origin ≡ first ∷ [] → StaysOpen faults first.store x
+
+-- what the store is to the turnstile
+abbrev pub counter_meaning : {D : Type 0} (faults : D → ℕ) → Meaning (Counter D) Entry
+counter_meaning faults = record {
+  list = λ c. c.store.entries;
+  seat_of = λ entry. entry.seat;
+  tally = λ c seat. tally_of c.store seat;
+  published = λ c. 0;
+  settled = λ c. ⊤;
+  opening = λ a b. StaysOpen faults a.store b.store;
+}
+
+pub found_by : {D : Type 0} (faults : D → ℕ) (p : Known D) (x : Counter D) → HasAll (counter_meaning faults) x p → Found faults p x.store
+found_by faults p x all = record {
+  finds = record { begins = all.begins; front = all.front; places = all.places };
+  tally = all.tally_is;
+  opened = λ first origin. opened_by (λ a b. StaysOpen faults a.store b.store) p.origin first x origin all.opened;
+}
+
+-- ---- what the seat knows in its turn and behind it
+
+module _ {D : Type 0} (p s1 s2 : Known D) (x : Held D) (found : s1 ≡ finding p x.entries) where
+  -- the value has one entry more than the seat has seen, and it is the seat's own
+  pub one_more : (x' : Held D) (taken : Entry) → x'.entries ≡ x.entries ++ taken ∷ [] → taken.seat ≡ p.number → (e : Entry) × (x'.entries ≡ s1.seen ++ e ∷ []) × (e.seat ≡ s1.number)
+  one_more x' taken is own = (taken, is ∙ ap (λ (s : Known D). s.seen ++ taken ∷ []) (sym found), own ∙ sym (ap (λ (s : Known D). s.number) found))
+
+  pub number_found : s1.number ≡ p.number
+  number_found = ap (λ (s : Known D). s.number) found
+
+  pub number_entered : (es : List Entry) → s2 ≡ grown s1 es → s2.number ≡ p.number
+  number_entered es entered = ap (λ (s : Known D). s.number) entered ∙ number_found
+
+module _ {D : Type 0} (p s1 s2 s3 : Known D) (x x' : Counter D) where
+  pub passed_entered : (turn : Turn (Counter D)) → s1 ≡ finding p x.store.entries → s2 ≡ grown s1 x'.store.entries → turn ≡ record { value = x' }
+      → s3 ≡ tallied s2 (tally_of turn.value.store s2.number) → s3 ≡ tallied (grown (finding p x.store.entries) x'.store.entries) (tally_of x'.store p.number)
+  passed_entered turn found entered same passed =
+      let grew : s2 ≡ grown (finding p x.store.entries) x'.store.entries = entered ∙ ap (λ (s : Known D). grown s x'.store.entries) found in
+      passed
+      ∙ (ap (λ (s : Known D). tallied s (tally_of turn.value.store s.number)) grew
+      ∙ ap (λ (t : Turn (Counter D)). tallied (grown (finding p x.store.entries) x'.store.entries) (tally_of t.value.store p.number)) same)
+
+module _ {D : Type 0} (p s1 s3 : Known D) (x x' : Counter D) where
+  pub passed_alone : s1 ≡ finding p x.store.entries → s3 ≡ tallied s1 (tally_of x'.store s1.number) → s3 ≡ tallied (finding p x.store.entries) (tally_of x'.store p.number)
+  passed_alone found passed = passed ∙ ap (λ (s : Known D). tallied s (tally_of x'.store s.number)) found
+
+-- ---- the opening
+
+-- a store has what its first has, where a definition reads schema, limits, opening and side
+is_having : {D : Type 0} (first x : Held D) → SameOpening first x → having first x.entries ≡ record x { begun = first.begun; tally = first.tally; disks = first.disks }
+is_having first x same = rw (same.schema, same.limits, same.opening, same.side) refl
+
+legal_by : {D : Type 0} (faults : D → ℕ) (first x : Held D) → StaysOpen faults first x → first.entries ≡ [] → HasLegalHistory (having first x.entries)
+legal_by faults first x kept none =
+    let nothing : HasLegalHistory first = rw none (record { legal = tt; fitting = All-nil (λ (e : Entry). IsOfSchema first.schema e.request) }) in
+    let now : IsHistory x.schema x.opening x.entries = kept.legal nothing in
+    rw (kept.same.schema, kept.same.opening) at now
+
+pub schema_found : {D : Type 0} (faults : D → ℕ) (schema : Schema) (p : Known D) (x : Held D) → IsOfOpening schema p → Found faults p x → x.schema ≡ schema
+schema_found faults schema p x of found = (found.opened of.first of.origin).same.schema ∙ of.schema_is
+
+-- what is asked of a request holds of the store's schema, and of the entry's request
+pub fits_there : (schema there : Schema) (r r' : Request) → there ≡ schema → r' ≡ r → IsOfSchema schema r → IsOfSchema there r'
+fits_there schema there r r' same is fits = subst (λ (s : Schema). IsOfSchema s r') (sym same) (subst (λ (q : Request). IsOfSchema schema q) (sym is) fits)
+
+pub texts_there : (schema there : Schema) (r r' : Request) → there ≡ schema → r' ≡ r → All (IsKeptText schema) (stored_in r) → All (IsKeptText there) (stored_in r')
+texts_there schema there r r' same is texts = subst (λ (s : Schema). All (IsKeptText s) (stored_in r')) (sym same) (subst (λ (q : Request). All (IsKeptText schema) (stored_in q)) (sym is) texts)
+
+first_schema : {D : Type 0} (schema : Schema) (p : Known D) (first : Counter D) → IsOfOpening schema p → p.origin ≡ first ∷ [] → first.store.schema ≡ schema
+first_schema schema p first of origin = ap (λ (c : Counter _). c.store.schema) (same_head p.origin first of.first origin of.origin) ∙ of.schema_is
+
+-- the tally has a place for the seat
+has_place : {D : Type 0} (faults : D → ℕ) (schema : Schema) (p : Known D) (x : Held D) → IsOfOpening schema p → Found faults p x → p.number < length x.tally
+has_place faults schema p x of found =
+    let long = (found.opened of.first of.origin).seats ∙ (ap length of.tally ∙ length-replicate {A = ℕ} 17 0) in
+    let few = of.number in
+    omega arith
+
+-- ---- what a seat knows
+
+knows_at : {D : Type 0} (p : Known D) (es : List Entry) (places : List ℕ) (tally : ℕ) → IsPrefix p.seen es → p.front ≤ length es → IsPrefix p.places places
+    → places_of seat_of p.number es ≡ places → (p.tally ≤ last_count → RisesTo p.tally tally)
+    → ((first : Counter D) → p.origin ≡ first ∷ [] → first.store.entries ≡ [] → HasLegalHistory (having first.store es))
+    → KnowsMore p (record p { seen = es; front = length es; places = places; tally = tally; shown = 0 })
+knows_at p es places tally begins front kept own rises legal = record {
+  number = refl;
+  given = refl;
+  origin = refl;
+  seen = begins;
+  front = front;
+  kept = kept;
+  places = λ before. own;
+  tally = rises;
+  legal = λ before. legal;
+}
+
+stays_risen : (n : ℕ) → n ≤ last_count → RisesTo n n
+stays_risen n most = record { rises = omega arith; most = most }
+
+module _ {D : Type 0} (faults : D → ℕ) (p : Known D) (x : Held D) (found : Found faults p x) where
+  -- behind a turn in which nothing was entered
+  pub knows_found : (tally : ℕ) → (p.tally ≤ last_count → RisesTo p.tally tally) → KnowsMore p (tallied (finding p x.entries) tally)
+  knows_found tally rises = knows_at p x.entries p.places tally found.finds.begins found.finds.front (prefix_self p.places) found.finds.places rises
+      (λ first origin none. legal_by faults first.store x (found.opened first origin) none)
+
+  -- behind a turn in which the seat entered an entry
+  knows_entered : (x' : Held D) (e : Entry) → IsOneOf faults x p.number x' → x'.entries ≡ x.entries ++ e ∷ [] → e.seat ≡ p.number
+      → KnowsMore p (grown (finding p x.entries) (x.entries ++ e ∷ []))
+  knows_entered x' e one is own = knows_at p (x.entries ++ e ∷ []) (p.places ++ length x.entries ∷ []) p.tally
+      (prefix_longer p.seen x.entries (e ∷ []) found.finds.begins)
+      (let longer = length-append x.entries (e ∷ []) in let front = found.finds.front in omega arith)
+      (prefix_longer p.places p.places (length x.entries ∷ []) (prefix_self p.places))
+      (places_own seat_of p.number 0 x.entries e own ∙ (ap (λ (l : List ℕ). l ++ (0 + length x.entries) ∷ []) found.finds.places ∙ ap (λ (n : ℕ). p.places ++ n ∷ []) (let z : 0 + length x.entries ≡ length x.entries = omega arith in z)))
+      (stays_risen p.tally)
+      (λ first origin none. subst (λ (es : List Entry). HasLegalHistory (having first.store es)) is (legal_by faults first.store x' (one.opening first.store (found.opened first origin)) none))
+
+-- ---- a step
+
+-- what a step came to, told of the opening with the history that was found
+comes_of : {D : Type 0} (first x : Held D) (p : Known D) (entry : Entry) (result : Result Reply StepFault) (q : Known D) → SameOpening first x
+    → Comes x p entry result q → Comes (having first x.entries) p entry result q
+comes_of first x p entry (Ok reply) q same comes = subst (λ h. Comes h p entry (Ok reply) q) (sym (is_having first x same)) comes
+comes_of first x p entry (Err fault.StoreFault) q same comes = subst (λ h. Comes h p entry (Err fault.StoreFault) q) (sym (is_having first x same)) comes
+comes_of first x p entry (Err (fault.Full full)) q same comes = subst (λ h. Comes h p entry (Err (fault.Full full)) q) (sym (is_having first x same)) comes
+comes_of first x p entry (Err fault.OutOfMemory) q same comes = comes
+
+module _ {D : Type 0} (moment_of : D → ℕ) (since : D → ℕ → List ℕ → Type 0) (faults : D → ℕ) (schema : Schema) (p : Known D) (x x' : Held D) (of : IsOfOpening schema p) (found : Found faults p x) (entry : Entry) (own : entry.seat ≡ p.number) where
+  -- the tally of the seat, where no store fault came
+  tally_kept : x'.tally ≡ x.tally → tally_of x' p.number ≡ p.tally
+  tally_kept same = ap (λ (l : List ℕ). get_or l p.number 0) same ∙ found.tally
+
+  comes_entered : (reply : Reply) (q : Known D) → IsStepOf moment_of since faults x entry (Ok reply) x'
+      → q ≡ tallied (grown (finding p x.entries) x'.entries) (tally_of x' p.number) → Comes x p entry (Ok reply) q
+  comes_entered reply q is knows = (
+    is.limited,
+    is.entered.1,
+    knows
+        ∙ (ap (λ (es : List Entry). tallied (grown (finding p x.entries) es) (tally_of x' p.number)) is.entered.0
+        ∙ ap (λ (n : ℕ). tallied (grown (finding p x.entries) (x.entries ++ taken_up x entry ∷ [])) n) (tally_kept is.tallied)),
+  )
+
+  tally_risen : IsStepOf moment_of since faults x entry (Err fault.StoreFault) x' → tally_of x' p.number ≡ risen p.tally
+  tally_risen is =
+      let inside = has_place faults schema p x of found in
+      let told : x'.tally ≡ set x.tally p.number (min (tally_of x p.number + 1) last_count) = rw own at is.tallied in
+      ap (λ (l : List ℕ). get_or l p.number 0) told ∙ (get_or-set_same x.tally p.number (risen (tally_of x p.number)) 0 inside ∙ ap risen found.tally)
+
+  -- behind a step that came to nothing
+  comes_faulted : (e : StepFault) (q : Known D) → IsStepOf moment_of since faults x entry (Err e) x' → q ≡ tallied (finding p x.entries) (tally_of x' p.number) → Comes x p entry (Err e) q
+  comes_faulted fault.StoreFault q is knows = (is.limited, is.unwritten, knows ∙ ap (λ (n : ℕ). tallied (finding p x.entries) n) (tally_risen is))
+  comes_faulted (fault.Full full) q is knows = (is.limited, knows ∙ ap (λ (n : ℕ). tallied (finding p x.entries) n) (tally_kept is.tallied))
+  comes_faulted fault.OutOfMemory q is knows = knows ∙ ap (λ (n : ℕ). tallied (finding p x.entries) n) (tally_kept is.tallied)
+
+  rises_by : (n : ℕ) → n ≡ risen p.tally → p.tally ≤ last_count → RisesTo p.tally n
+  rises_by n is most = record { rises = omega arith; most = omega arith }
+
+  rises_kept : (n : ℕ) → n ≡ p.tally → p.tally ≤ last_count → RisesTo p.tally n
+  rises_kept n is most = record { rises = omega arith; most = omega arith }
+
+  rises_faulted : (e : StepFault) → IsStepOf moment_of since faults x entry (Err e) x' → p.tally ≤ last_count → RisesTo p.tally (tally_of x' p.number)
+  rises_faulted fault.StoreFault is most = rises_by (tally_of x' p.number) (tally_risen is) most
+  rises_faulted (fault.Full full) is most = rises_kept (tally_of x' p.number) (tally_kept is.tallied) most
+  rises_faulted fault.OutOfMemory is most = rises_kept (tally_of x' p.number) (tally_kept is.tallied) most
+
+  pub knows_faulted : (e : StepFault) (q : Known D) → IsStepOf moment_of since faults x entry (Err e) x' → q ≡ tallied (finding p x.entries) (tally_of x' p.number) → KnowsMore p q
+  knows_faulted e q is knows = rw knows (knows_found faults p x found (tally_of x' p.number) (rises_faulted e is))
+
+  pub knows_stepped : (reply : Reply) (q : Known D) → IsStepOf moment_of since faults x entry (Ok reply) x' → IsOneOf faults x entry.seat x'
+      → q ≡ tallied (grown (finding p x.entries) x'.entries) (tally_of x' p.number) → KnowsMore p q
+  knows_stepped reply q is one knows = rw (comes_entered reply q is knows).2 (knows_entered faults p x found x' (taken_up x entry) (rw own at one) is.entered.0 own)
+
+  module _ (m : Message) (moment : ℕ) (request : Request) (is_entry : entry ≡ entry_of p.number request m moment) (asks : asked m schema ≡ Ok request) (change : IsChange request) where
+    step_answers : (result : Result Reply StepFault) (answer : Answered) (q : Known D) → Comes x p entry result q → answer ≡ answer_of result
+        → (first : Counter D) → p.origin ≡ first ∷ [] → Answers first.store p m moment answer q
+    step_answers result answer q comes answer_is first origin =
+        let same = (found.opened first origin).same in
+        stepped request x.entries result (rw (first_schema schema p first of origin) asks) change found.finds
+        (subst (λ (e : Entry). Comes (having first.store x.entries) p e result q) is_entry (comes_of first.store x p entry result q same comes)) answer_is
+
+    pub answers_entered : (reply : Reply) (answer : Answered) (q : Known D) → IsStepOf moment_of since faults x entry (Ok reply) x' → answer ≡ answered.Reply reply
+        → q ≡ tallied (grown (finding p x.entries) x'.entries) (tally_of x' p.number) → (first : Counter D) → p.origin ≡ first ∷ [] → Answers first.store p m moment answer q
+    answers_entered reply answer q is answer_is knows = step_answers (Ok reply) answer q (comes_entered reply q is knows) answer_is
+
+    pub answers_faulted : (e : StepFault) (answer : Answered) (q : Known D) → IsStepOf moment_of since faults x entry (Err e) x' → answer ≡ answer_of (Err e)
+        → q ≡ tallied (finding p x.entries) (tally_of x' p.number) → (first : Counter D) → p.origin ≡ first ∷ [] → Answers first.store p m moment answer q
+    answers_faulted e answer q is answer_is knows = step_answers (Err e) answer q (comes_faulted e q is knows) answer_is
+
+-- ---- a read
+
+module _ {D : Type 0} (faults : D → ℕ) (schema : Schema) (p : Known D) (x : Held D) (of : IsOfOpening schema p) (found : Found faults p x) (q : Known D) (knows : q ≡ tallied (finding p x.entries) (tally_of x p.number)) where
+  found_as : q ≡ finding p x.entries
+  found_as = knows ∙ ap (λ (n : ℕ). tallied (finding p x.entries) n) found.tally
+
+  pub knows_read : KnowsMore p q
+  knows_read = rw found_as (knows_found faults p x found p.tally (stays_risen p.tally))
+
+  module _ (m : Message) (moment : ℕ) (request : Request) (asks : asked m schema ≡ Ok request) (reads : IsChange request → ⊥) where
+    pub answers_read : (reply : Reply) (answer : Answered) → reply ≡ read x.schema (kept_of x) (clamped moment) request → answer ≡ answered.Reply reply
+        → (first : Counter D) → p.origin ≡ first ∷ [] → Answers first.store p m moment answer q
+    answers_read reply answer is answer_is first origin =
+        let same = (found.opened first origin).same in
+        let told : reply ≡ read first.store.schema (kept_of (having first.store x.entries)) (clamped moment) request = rw (same.schema, same.opening) at is in
+        only_read request x.entries (rw (first_schema schema p first of origin) asks) reads found.finds (answer_is ∙ ap (λ (r : Reply). answered.Reply r) told) found_as
+
+    pub answers_none : (answer : Answered) → answer ≡ answered.OutOfMemory → (first : Counter D) → p.origin ≡ first ∷ [] → Answers first.store p m moment answer q
+    answers_none answer answer_is first origin = no_memory x.entries answer_is (inr (found.finds, found_as))
+
+-- ---- what needs no turn
+
+-- the opening is still the seat's
+pub opening_still : {D : Type 0} (schema : Schema) (p q : Known D) → IsOfOpening schema p → KnowsMore p q → IsOfOpening schema q
+opening_still schema p q of more = record {
+  first = of.first;
+  origin = more.origin ∙ of.origin;
+  schema_is = of.schema_is;
+  rules = of.rules;
+  tally = of.tally;
+  number = rw more.number of.number;
+}
+
+pub refused_by : (schema : Schema) (m : Message) (r : Result Request AskFault) (e : AskFault) (refusal : Refusal) → GivesBut ask.OutOfMemory (λ (q : Request). q) r (asked m schema)
+    → r ≡ Err e → e ≡ ask.Refused refusal → asked m schema ≡ Err (ask.Refused refusal)
+refused_by schema m r e refusal read is is_e =
+    let told : FailsBut ask.OutOfMemory (ask.Refused refusal) (asked m schema) = subst (λ (x : Result Request AskFault). GivesBut ask.OutOfMemory (λ (q : Request). q) x (asked m schema)) (is ∙ ap (λ (x : AskFault). Err x) is_e) read in
+    told (λ z. cc)
+
+pub answers_by_bytes : {D : Type 0} (schema : Schema) (p : Known D) (m : Message) (moment : ℕ) (refusal : Refusal) → IsOfOpening schema p → asked m schema ≡ Err (ask.Refused refusal)
+    → (first : Counter D) → p.origin ≡ first ∷ [] → Answers first.store p m moment (answered.Reply (Refused refusal)) p
+answers_by_bytes schema p m moment refusal of asks first origin = by_bytes refusal (rw (first_schema schema p first of origin) asks) refl refl
+
+pub answers_not : {D : Type 0} (p : Known D) (m : Message) (moment : ℕ) (first : Counter D) → p.origin ≡ first ∷ [] → Answers first.store p m moment answered.OutOfMemory p
+answers_not p m moment first origin = no_memory [] refl (inl refl)

@@ -1,0 +1,4 @@
+pub mod Knowing
+pub mod Openings
+pub mod Seats
+pub mod Turns

@@ -1,0 +1,71 @@
+-- What a message of a seat comes to, in the words of what the seat has seen of the store's history.
+use Rattle.std.specs.Prelude.{◌≡◌, ◌≢◌, ◌⊎◌, ℕ, ◌≤◌, List, [], ◌∷◌, ◌++◌, length, None, Some, Result, Ok, Err}
+use mathlib.Core.List.{IsPrefix}
+use Rattle.http_session.specs.declared.message.Message.{Message}
+use Rattle.message_asks.specs.Asks.{asked}
+use Rattle.message_asks.specs.Verdicts.{entry_of}
+use Rattle.session_workers.specs.declared.answered.Answered.{Answered}
+use Rattle.session_workers.specs.declared.answered.Answered.TheVariants as answered
+use Rattle.store_turns.specs.Openings.{having}
+use Rattle.turnstile_core.specs.Places.{places_of}
+use Rattle.turnstile_core.specs.Steps.{grown, tallied}
+use Rattle.turnstile_core.specs.declared.view.Past.{Past}
+use Rattle.wfs_ends.specs.Ends.{risen}
+use Rattle.wfs_model.specs.declared.entry.Entry.{Entry}
+use Rattle.wfs_model.specs.declared.fault.AskFault.TheVariants as ask
+use Rattle.wfs_model.specs.declared.reply.Refusal.{Refusal}
+use Rattle.wfs_model.specs.declared.reply.Reply.{Reply}
+use Rattle.wfs_model.specs.declared.reply.Reply.TheVariants.{Refused}
+use Rattle.wfs_model.specs.declared.request.Request.{Request}
+use Rattle.wfs_model.specs.Changing.{IsChange}
+use Rattle.wfs_model.specs.History.{reply_after}
+use Rattle.wfs_model.specs.Read.{read}
+use Rattle.wfs_model.specs.State.{clamped}
+use Rattle.wfs_store.specs.declared.fault.StepFault.{StepFault}
+use Rattle.wfs_store.specs.declared.fault.StepFault.TheVariants as fault
+use Rattle.wfs_store.specs.Held.{Held, kept_of}
+use Rattle.wfs_store.specs.Stepped.{taken_up, full_for, change_by}
+
+-- whose an entry is
+abbrev pub seat_of : Entry → ℕ
+seat_of entry = entry.seat
+
+module _ {T : Type 0} where
+  -- a history that a seat finds: it begins with what the seat had seen, and no entry behind that is the seat's own
+  pub record Finds (p : Past T Entry) (entries : List Entry) : Type 0 where
+    pub begins : IsPrefix p.seen entries
+    pub front : p.front ≤ length entries
+    pub places : places_of seat_of p.number entries ≡ p.places
+
+  -- the seat once it has found this history
+  abbrev pub finding : Past T Entry → List Entry → Past T Entry
+  finding p entries = record p { seen = entries; front = length entries; shown = 0 }
+
+  -- What a step on a history comes to for the seat that takes it. The reply is that of the entry at its place, which is the last one, and
+  -- the seat has seen all up to it. A step is full exactly where its entry would pass a limit there, but for want of memory; and a store
+  -- fault, which only an entry comes to that makes a change, is counted for the seat.
+  abbrev pub Comes : {D : Type 0} → Held D → Past T Entry → Entry → Result Reply StepFault → Past T Entry → Type 0
+  Comes held p entry (Ok reply) q =
+      (full_for held entry ≡ None) × (reply ≡ reply_after held.schema held.opening held.entries (taken_up held entry))
+      × (q ≡ grown (finding p held.entries) (held.entries ++ taken_up held entry ∷ []))
+  Comes held p entry (Err fault.StoreFault) q = (full_for held entry ≡ None) × (change_by held entry ≢ None) × (q ≡ tallied (finding p held.entries) (risen p.tally))
+  Comes held p entry (Err (fault.Full at)) q = (full_for held entry ≡ Some at) × (q ≡ finding p held.entries)
+  Comes held p entry (Err fault.OutOfMemory) q = q ≡ finding p held.entries
+
+-- what is answered where a step came to this
+abbrev pub answer_of : Result Reply StepFault → Answered
+answer_of (Ok reply) = answered.Reply reply
+answer_of (Err fault.StoreFault) = answered.StoreFault
+answer_of (Err (fault.Full at)) = answered.Full
+answer_of (Err fault.OutOfMemory) = answered.OutOfMemory
+
+-- What a seat answers to a message that comes at a moment, and what it knows behind it. The message is refused by its bytes and the schema
+-- alone, and no turn is taken; or it asks for a change, and the store takes a step in the seat's turn; or it only reads, and is answered by
+-- what the history leaves that the seat finds in its turn, all of it; or there was no memory, and nothing was done.
+pub data Answers {D T : Type 0} (first : Held D) (p : Past T Entry) (m : Message) (moment : ℕ) (answer : Answered) (q : Past T Entry) : Type 0 where
+  by_bytes : (refusal : Refusal) → asked m first.schema ≡ Err (ask.Refused refusal) → answer ≡ answered.Reply (Refused refusal) → q ≡ p → Answers first p m moment answer q
+  stepped : (request : Request) (entries : List Entry) (result : Result Reply StepFault) → asked m first.schema ≡ Ok request → IsChange request → Finds p entries
+      → Comes (having first entries) p (entry_of p.number request m moment) result q → answer ≡ answer_of result → Answers first p m moment answer q
+  only_read : (request : Request) (entries : List Entry) → asked m first.schema ≡ Ok request → (IsChange request → ⊥) → Finds p entries
+      → answer ≡ answered.Reply (read first.schema (kept_of (having first entries)) (clamped moment) request) → q ≡ finding p entries → Answers first p m moment answer q
+  no_memory : (entries : List Entry) → answer ≡ answered.OutOfMemory → (q ≡ p) ⊎ (Finds p entries × (q ≡ finding p entries)) → Answers first p m moment answer q

@@ -1,0 +1,130 @@
+//! A seat at the store's turnstile, which serves the sessions of one worker.
+
+ghost use Rattle.std.specs.Prelude.{◌≡◌, ◌≤◌};
+ghost use Rattle.store_turns.specs.Seats.{IsOfOpening};
+ghost use Rattle.turnstile_core.specs.Seats.{name_of, turnstile_of, past, IsFree};
+
+use crate::counter::Counter;
+use crate::taking::carry_out;
+use disk_core::Disk;
+use feature_values::Schema;
+use http_session::Message;
+use message_asks::read_asked;
+use session_workers::{Answered, Gate, Service};
+use std::alloc::Global;
+use std::marker::Model;
+use std::sync::Wait;
+use turnstile_core::{Kept, Seat, Turnstile};
+use wfs_model::{AskFault, Entry, Reply};
+
+/// A seat at the store's turnstile, with the schema that is served and the handle to wait by. It holds no turn.
+///
+/// Contracts see at which turnstile it is, the schema, and what the seat knows.
+#[derive(Drop)]
+pub struct Desk<'a, R, D: Disk>
+where
+    Counter<D>: Kept<Entry = Entry>,
+{
+    rt: &'a R,
+    turnstile: &'a Turnstile<Counter<D>>,
+    schema: &'a Schema,
+    number: u32,
+    seat: Seat<Counter<D>>,
+}
+
+impl<'a, R, D: Disk> Model for Desk<'a, R, D>
+where
+    Counter<D>: Kept<Entry = Entry>,
+{
+    ghost use Rattle.std.specs.Prelude.{◌≡◌};
+    ghost use Rattle.std.specs.Coded.{codes};
+    ghost use Rattle.fes_filter.specs.contracts.filter.Filter as filter_row;
+    ghost use Rattle.store_turns.specs.Seats.{Seated, IsOfOpening};
+    ghost use Rattle.turnstile_core.specs.Seats.{name_of, turnstile_of, past, IsFree};
+
+    ghost Value = { Seated D };
+
+    ghost coded = { Prim.hlevel (codes, filter_row.the_row.coded, D.code) };
+
+    ghost view = { λ d. record { name = name_of d.turnstile.now; schema = d.schema.now; past = past d.seat } };
+
+    ghost invariant = { λ d. (turnstile_of d.seat ≡ name_of d.turnstile.now) × IsFree d.seat × ((past d.seat).number ≡ d.number) × IsOfOpening d.schema.now (past d.seat) };
+}
+
+impl<'a, R: Wait, D: Disk> Desk<'a, R, D> {
+    /// A desk of this seat, which holds no turn and has this number.
+    pub fn of(
+        rt: &'a R,
+        turnstile: &'a Turnstile<Counter<D>>,
+        schema: &'a Schema,
+        number: u32,
+        seat: Seat<Counter<D>>,
+    ) -> Desk<'a, R, D>
+        requires own { turnstile_of seat ≡ name_of turnstile.now }
+        requires free { IsFree seat }
+        requires number { (past seat).number ≡ number }
+        requires opening { IsOfOpening schema.now (past seat) }
+        ensures { result ≡ record { name = name_of turnstile.now; schema = schema.now; past = past seat } }
+    {
+        Desk {
+            rt,
+            turnstile,
+            schema,
+            number,
+            seat,
+        }
+    }
+
+    /// The seat, which holds no turn.
+    pub fn into_seat(self) -> Seat<Counter<D>>
+        ensures own { turnstile_of result ≡ self.entry.name }
+        ensures free { IsFree result }
+        ensures past { past result ≡ self.entry.past }
+    {
+        let Desk { seat, .. } = self;
+        seat
+    }
+}
+
+impl<'a, R: Wait, D: Disk> Service for Desk<'a, R, D> {
+    ghost use Rattle.store_turns.specs.Seats.{desk_meaning, leads_same, leads_both};
+
+    ghost schema = { desk_meaning.schema };
+
+    ghost judges = { desk_meaning.judges };
+
+    ghost leads = { desk_meaning.leads };
+
+    ghost stays = { leads_same };
+
+    ghost follows = { leads_both };
+
+    fn schema(&self) -> &Schema {
+        self.schema
+    }
+
+    fn judge<G: Gate>(
+        &mut self,
+        alloc: Global,
+        message: &Message,
+        _is_last: bool,
+        moment: u64,
+        gate: &mut G,
+    ) -> Answered {
+        match read_asked(alloc, message, self.schema) {
+            Ok(request) => carry_out(
+                self.rt,
+                self.turnstile,
+                &mut self.seat,
+                self.number,
+                self.schema,
+                message,
+                moment,
+                request,
+                gate,
+            ),
+            Err(AskFault::Refused(refusal)) => Answered::Reply(Reply::Refused(refusal)),
+            Err(AskFault::OutOfMemory) => Answered::OutOfMemory,
+        }
+    }
+}
