@@ -6,19 +6,25 @@ ghost use Rattle.durable_journal.specs.Faults.{from_recovery, from_checkpoint, f
 use checkpoints::CompactFault;
 use feature_journal::AppendFault;
 use recovery::{Place, RecoverFault};
+use thiserror::Error;
 
 /// Why a journal was not opened, or not looked at.
-#[derive(Clone, Copy, Debug, PartialEq, Eq)]
+#[derive(Clone, Copy, Debug, PartialEq, Eq, Error)]
 pub enum OpenFault {
     /// A disk failed.
+    #[error("a disk failed")]
     DiskFault,
     /// A side is no journal's, at this place.
+    #[error("a side is no journal's at byte {at}", at = .0.at)]
     NotAJournal(Place),
     /// The record of this number, from 0, is none of the schema, or does not fit behind those before it.
+    #[error("record {0} is none of the schema, or does not fit behind those before it")]
     NotOfSchema(u64),
     /// A length above the limit: the one that was read so far, or the one that the new side, the checkpoint or the record
     /// of the opening would make. Or the last number of an opening, or of a generation, where no greater one is left.
+    #[error("a length or a number is above its limit: {0}")]
     Full(u64),
+    #[error("out of memory")]
     OutOfMemory,
 }
 

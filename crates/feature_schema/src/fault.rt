@@ -3,22 +3,29 @@
 ghost use Rattle.std.specs.Prelude.{◌≡◌};
 
 use std::alloc::{AllocError, AllocFailed, Global};
+use thiserror::Error;
 use wfs_ends::{OutOfMemory, Text};
 
 /// What is wrong first with a schema file.
-#[derive(Debug, PartialEq, Eq, Drop)]
+#[derive(Debug, PartialEq, Eq, Drop, Error)]
 pub enum SchemaFault {
     /// The bytes are no TOML document.
+    #[error("the bytes are no TOML document")]
     NotToml,
     /// This key is missing, unknown, or has a value that it may not have.
+    #[error("the key {key} is missing, unknown, or has a value that it may not have", key = .0.as_str())]
     Key(Text),
     /// The kind of the property of this name is none.
+    #[error("the kind of the property {name} is none", name = .0.as_str())]
     Kind(Text),
     /// A second type, or a second property of one type, has this name.
+    #[error("the name {name} stands twice", name = .0.as_str())]
     Twice(Text),
     /// There are more than 64 types, or more than 64 properties in one type.
+    #[error("over 64 types, or over 64 properties in one type")]
     TooMany,
     /// There is no memory for the schema.
+    #[error("out of memory")]
     OutOfMemory,
 }
 

@@ -2,20 +2,26 @@
 
 use geom_core::GeomFault;
 use std::alloc::{AllocError, AllocFailed};
+use thiserror::Error;
 use wfs_ends::OutOfMemory;
 
 /// What is wrong first with the element of a geometry.
-#[derive(Clone, Copy, Debug, PartialEq, Eq)]
+#[derive(Clone, Copy, Debug, PartialEq, Eq, Error)]
 pub enum GmlFault {
     /// An element stands where it is not allowed, or one is missing.
+    #[error("an element is not allowed there, or is missing")]
     Kind,
     /// A text writes no numbers, an odd number of them, or not two where one position is asked for.
+    #[error("a text writes no numbers, or not as many as are asked for")]
     Number,
     /// The reference system is none of those that are known, or positions have not two coordinates.
+    #[error("the reference system is not known, or has not two coordinates")]
     Srs,
     /// The positions make no such shape.
+    #[error("the positions make no such shape: {0}")]
     Shape(GeomFault),
     /// There is no memory for the geometry.
+    #[error("out of memory")]
     OutOfMemory,
 }
 

@@ -1,19 +1,24 @@
 //! Why a body is not read.
 
 use std::alloc::{AllocError, AllocFailed};
+use thiserror::Error;
 use wfs_ends::OutOfMemory;
 
 /// Why the body of a record is not read: the first fault in reading order.
-#[derive(Clone, Copy, Debug, PartialEq, Eq)]
+#[derive(Clone, Copy, Debug, PartialEq, Eq, Error)]
 pub enum RecordFault {
     /// The bytes end too early.
+    #[error("the bytes end too early")]
     Cut,
     /// A byte that is no kind stands where a kind does, a boolean is neither 0 nor 1, a text is not UTF-8, or a shape
     /// is not valid.
+    #[error("a kind, a boolean, a text or a shape is none")]
     Kind,
     /// Bytes stand behind the change.
+    #[error("bytes stand behind the change")]
     Trailing,
     /// There is no memory for the change.
+    #[error("out of memory")]
     OutOfMemory,
 }
 

@@ -1,6 +1,7 @@
 //! What the calls of the table are told and answer.
 
 use std::alloc::AllocError;
+use thiserror::Error;
 
 /// What a transaction releases of its lock (OGC 09-025r2, 15.2.3.1.3).
 #[derive(Clone, Copy, Debug, PartialEq, Eq)]
@@ -23,11 +24,13 @@ pub enum LockStatus {
 }
 
 /// Why no room was made for a lock.
-#[derive(Clone, Copy, Debug, PartialEq, Eq)]
+#[derive(Clone, Copy, Debug, PartialEq, Eq, Error)]
 pub enum LockFault {
     /// There are as many live locks as there may be, or more: this many.
+    #[error("there is no room beside {0} live locks")]
     Full(u64),
     /// Memory ran out.
+    #[error("out of memory")]
     OutOfMemory,
 }
 

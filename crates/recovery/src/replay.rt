@@ -3,15 +3,19 @@
 ghost use Rattle.std.specs.Prelude.{◌≡◌, [], ℕ, List, length};
 ghost use Rattle.recovery.specs.Replay.{Verdict, Answers, taken_after};
 
+use thiserror::Error;
 use wfs_ends::OutOfMemory;
 
 /// Why a record was not taken.
-#[derive(Clone, Copy, Debug, PartialEq, Eq)]
+#[derive(Clone, Copy, Debug, PartialEq, Eq, Error)]
 pub enum ReplayFault {
     /// Its bytes are no record.
+    #[error("the bytes are no record")]
     BadBytes,
     /// It is a record that does not fit the schema, or not behind those before it.
+    #[error("the record does not fit the schema, or not behind those before it")]
     NotOfSchema,
+    #[error("out of memory")]
     OutOfMemory,
 }
 

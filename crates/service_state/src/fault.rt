@@ -1,14 +1,17 @@
 //! Why a plan was not prepared.
 
+use thiserror::Error;
 use wfs_ends::OutOfMemory;
 use wfs_model::FullAt;
 
 /// A plan was not prepared, and nothing of it can be carried out.
-#[derive(Clone, Copy, Debug, PartialEq, Eq)]
+#[derive(Clone, Copy, Debug, PartialEq, Eq, Error)]
 pub enum PrepareFault {
     /// The step would pass a limit: this one first.
+    #[error("a limit would be passed")]
     Full(FullAt),
     /// Memory ran out.
+    #[error("out of memory")]
     OutOfMemory,
 }
 

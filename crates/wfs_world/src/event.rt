@@ -1,6 +1,7 @@
 //! What may happen to a world, and what is seen of it.
 
 use std::alloc::AllocError;
+use thiserror::Error;
 use wfs_ends::OutOfMemory;
 use wfs_model::{Reply, Request};
 
@@ -89,11 +90,13 @@ pub enum Seen {
 }
 
 /// Why an event does not happen.
-#[derive(Clone, Copy, Debug, PartialEq, Eq)]
+#[derive(Clone, Copy, Debug, PartialEq, Eq, Error)]
 pub enum WorldFault {
     /// The event may not happen in this state of the world.
+    #[error("the event may not happen in this state of the world")]
     NotNow,
     /// Memory ran out.
+    #[error("out of memory")]
     OutOfMemory,
 }
 
