@@ -5,7 +5,7 @@ ghost use Rattle.wfs_world.specs.declared.event.Event.TheVariants.{Crash};
 ghost use Rattle.wfs_world.specs.Events.{MayHappen, crashed};
 ghost use Rattle.wfs_world.specs.Scene.{opened_on};
 
-use crate::scene::{Scene, push_some};
+use crate::scene::{Scene, push_some, set};
 use wfs_ends::Mem;
 
 impl Scene {
@@ -23,9 +23,9 @@ impl Scene {
         self.found = self.journal.len();
         self.entries.clear();
         self.line.clear();
-        self.turn = None;
+        set(&mut self.turn, None);
         self.fronts.fill(0);
-        self.begun = None;
+        set(&mut self.begun, None);
         self.is_up = false;
     }
 

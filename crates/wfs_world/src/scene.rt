@@ -65,6 +65,13 @@ pub(crate) fn push_some<T>(items: &mut Vec<T>, item: Option<T>)
     }
 }
 
+/// A value in the place of another. What drops the other is proved here once, and not in each method anew.
+pub(crate) fn set<T: Drop>(place: &mut T, value: T)
+    ensures { place.new ≡ value }
+{
+    *place = value;
+}
+
 impl Scene {
     /// The first opening, with so many seats and nothing in it.
     pub fn new(alloc: Global, schema: Schema, seats: u32) -> Mem<Scene>

@@ -12,7 +12,7 @@ ghost use Rattle.wfs_world.specs.Scene.{stage_of};
 ghost use Rattle.wfs_world.specs.Turns.{put_as, stage_at};
 
 use crate::event::{PutOutcome, Seen};
-use crate::scene::{Scene, push_some};
+use crate::scene::{Scene, push_some, set};
 use crate::turn::{Stage, Turn, may_enter, may_leave, put_on, seen_at_last, stage_in};
 use std::collections::VecDeque;
 use wfs_ends::{Mem, OutOfMemory};
@@ -38,6 +38,16 @@ fn is_in_line(line: &VecDeque<Entry>, seat: u32) -> bool
     ensures { result ≡ list_any (λ entry. entry.seat == seat) line.now.items }
 {
     line.iter().any(|entry| entry.seat == seat)
+}
+
+// The turn of a request that is taken.
+fn turn_of(entry: Entry) -> Turn
+    ensures { result ≡ record { seat = entry.seat; stage = Taken entry } }
+{
+    Turn {
+        seat: entry.seat,
+        stage: Stage::Taken(entry),
+    }
 }
 
 impl Scene {
@@ -88,10 +98,7 @@ impl Scene {
         ensures { self.new ≡ taken self.old self.old.line }
     {
         if let Some(entry) = self.line.pop_front() {
-            self.turn = Some(Turn {
-                seat: entry.seat,
-                stage: Stage::Taken(entry),
-            });
+            set(&mut self.turn, Some(turn_of(entry)));
         }
     }
 
@@ -124,15 +131,16 @@ impl Scene {
         ensures err { OnErr result (self.new ≡ self.old) }
     {
         self.journal.reserve(1)?;
-        self.turn = put_on(self.turn.take(), outcome);
+        let turn = put_on(self.turn.take(), outcome);
+        set(&mut self.turn, turn);
         match outcome {
             PutOutcome::NotNeeded | PutOutcome::FaultHeld => (),
             PutOutcome::Done => {
                 push_some(&mut self.journal, change);
-                self.begun = None;
+                set(&mut self.begun, None);
             }
-            PutOutcome::FaultClean => self.begun = None,
-            PutOutcome::FaultBegun => self.begun = change,
+            PutOutcome::FaultClean => set(&mut self.begun, None),
+            PutOutcome::FaultBegun => set(&mut self.begun, change),
         }
         Ok(())
     }
