@@ -14,7 +14,7 @@ use wfs_ends::{List, Mem};
 use wfs_model::{Action, Request};
 
 /// What is done.
-#[derive(Clone, Copy, Debug, PartialEq, Eq)]
+#[derive(Clone, Copy)]
 pub enum Deed {
     /// A mark of this size comes in.
     Insert(i64),

@@ -365,11 +365,20 @@ fn over_locks<'a>(
     planned(alloc, view, &basis, request)
 }
 
+fn work_of(plan: Plan) -> LockWork
+    ensures { result ≡ plan.lock }
+{
+    plan.lock
+}
+
 fn is_done_so(plan: Plan, locks: &mut LockTable, moment: u64, case: &Case) -> bool
     requires later { locks.old.last ≤ moment }
     requires doable { IsDoable plan.lock locks.old.given moment locks.old.locks }
 {
-    is_plan(&plan, case) && is_done(plan.lock, locks, moment)
+    if !is_plan(&plan, case) {
+        return false;
+    }
+    is_done(work_of(plan), locks, moment)
 }
 
 fn is_answered<'a>(

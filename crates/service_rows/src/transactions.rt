@@ -319,8 +319,7 @@ fn holds<'a>(
     requires counters { length counters.now ≡ length schema.now.types }
     requires last { locks.now.last ≤ 1000 }
 {
-    let (_, lock, _, deeds, _, _, _, _) = *case;
-    let request = transaction(alloc, schema, lock, Release::Whole, deeds)?;
+    let request = transaction(alloc, schema, case.1, Release::Whole, case.3)?;
     Ok(is_answer(alloc, view, schema, counters, locks, &request, case))
 }
 

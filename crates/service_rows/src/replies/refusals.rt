@@ -250,13 +250,20 @@ fn is_reported(alloc: Global, reply: &Reply, row: Row) -> Mem<bool> {
     are_bytes(alloc, reply, true, expected.as_bytes())
 }
 
+fn is_refusal(alloc: Global, reply: &Reply, row: Row) -> Mem<bool> {
+    if length_of(alloc, reply)? != row.2 {
+        return Ok(false);
+    }
+    is_reported(alloc, reply, row)
+}
+
 fn is_refused(alloc: Global, row: Row) -> Mem<bool> {
     let locator = Text::of(alloc, row.4)?;
     let reply = Reply::Refused(Refusal {
         row: row.0,
         locator,
     });
-    Ok(length_of(alloc, &reply)? == row.2 && is_reported(alloc, &reply, row)?)
+    is_refusal(alloc, &reply, row)
 }
 
 // The bytes of a refusal without a reply, in a sink that takes so many.
