@@ -14,6 +14,3 @@ mod viewing;
 
 pub use features::Features;
 pub use stored_queries::Stored;
-
-#[cfg(test)]
-mod tests;

@@ -21,6 +21,3 @@ mod values;
 
 pub use refusal::put_fixed;
 pub use reply::{put_reply, reply_length};
-
-#[cfg(test)]
-mod tests;

@@ -18,6 +18,3 @@ pub use carrying::{carry_locks, reserve_locks};
 pub use counting::features_after;
 pub use plan::{LockWork, Plan};
 pub use planning::plan_request;
-
-#[cfg(test)]
-mod tests;

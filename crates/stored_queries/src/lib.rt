@@ -26,6 +26,3 @@ pub use paging::{link_to, next_page, page, previous_page};
 pub use refusing::refusal_of;
 pub use selecting::{all_selected, select_asked};
 pub use stored::{Stored, first_known, is_there};
-
-#[cfg(test)]
-mod tests;

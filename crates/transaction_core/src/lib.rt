@@ -19,6 +19,3 @@ pub use naming::number_by;
 pub use permitting::rid_text;
 pub use planned::Planned;
 pub use planning::plan;
-
-#[cfg(test)]
-mod tests;

@@ -1,5 +1,0 @@
-use Rattle.request_plans.proofs.Marks.{drop_is_of}
-use Rattle.request_plans.proofs.tests.asks.request.Goals as goal
-
-pub returns-in_ok-of-in-Drop-clause-fitting : goal.returns-in_ok-of-in-Drop-clause-fitting
-returns-in_ok-of-in-Drop-clause-fitting c = drop_is_of c.args.schema.now c.in_ok-of-in-Drop.field-0 c.in_ok-of-in-Drop.ensures

@@ -1,0 +1,458 @@
+//! Reads over two marks, a stored query with a parameter, and the list of stored queries. What is expected was worked out by hand.
+use crate::samples::{are_given, texts};
+use feature_values::Schema;
+use fes_filter::{By, Expr, Filter, Query};
+use std::alloc::Global;
+use stored_queries::{Stored, answer, expand};
+use views::{SampleView, sample, schema};
+use wfs_ends::{List, Mem, OutOfMemory, Text};
+use wfs_model::{Asked, Present, Reply, Request, StoredFault, StoredQuery};
+
+mod views;
+
+const BY_LABEL: &str = "urn:x:by";
+
+const BY_ID: &str = "urn:ogc:def:query:OGC-WFS::GetFeatureById";
+
+const BY_ID_ADDRESS: &str = "http://www.opengis.net/def/query/OGC-WFS/0/GetFeatureById";
+
+const LINK: &str = "http://localhost:8080/wfs?service=WFS&request=GetFeature&typeNames=Mark";
+
+/// What is asked, by whether it is only counted, where the page begins and how many members it has.
+enum Ask {
+    Marks(bool, u32, Option<u32>),
+    Use(bool, &'static str, &'static [(&'static str, &'static str)]),
+    /// Uses of the query by label, with one parameter each.
+    Uses(&'static [(&'static str, &'static str)]),
+    Sizes(bool, u32, Option<u32>),
+    Describe(&'static [&'static str]),
+}
+
+/// What is answered: a number matched, the numbers of features, and the ends of the links; or else.
+enum Want {
+    Features(u64, &'static [u64], &'static str, &'static str),
+    Values(u64, &'static [u64], &'static str, &'static str),
+    Bare(u64),
+    Row(u8, &'static str),
+    Described(&'static [&'static str]),
+}
+
+static ROWS: [(&str, Ask, Want); 21] = [
+    (
+        "counted",
+        Ask::Marks(true, 1, Some(1)),
+        Want::Features(2, &[], "", ""),
+    ),
+    (
+        "a page past the end",
+        Ask::Marks(false, 2, Some(5)),
+        Want::Features(2, &[], "", "&startIndex=0&count=2"),
+    ),
+    (
+        "the first page",
+        Ask::Marks(false, 0, Some(1)),
+        Want::Features(2, &[1], "&startIndex=1&count=1", ""),
+    ),
+    (
+        "without a count",
+        Ask::Marks(false, 1, None),
+        Want::Features(2, &[2], "", "&startIndex=0&count=1"),
+    ),
+    (
+        "of no members",
+        Ask::Marks(false, 1, Some(0)),
+        Want::Features(2, &[], "", ""),
+    ),
+    (
+        "by label, in another case",
+        Ask::Use(false, BY_LABEL, &[("L", "B")]),
+        Want::Features(1, &[2], "", ""),
+    ),
+    (
+        "the first of two",
+        Ask::Use(false, BY_LABEL, &[("l", "A"), ("L", "B")]),
+        Want::Features(1, &[1], "", ""),
+    ),
+    (
+        "without its parameter",
+        Ask::Use(false, BY_LABEL, &[("x", "B")]),
+        Want::Row(10, "l"),
+    ),
+    (
+        "with another parameter",
+        Ask::Use(false, BY_LABEL, &[("l", "B"), ("X", "1")]),
+        Want::Row(11, "X"),
+    ),
+    (
+        "several uses, each feature once",
+        Ask::Uses(&[("l", "B"), ("l", "A"), ("l", "B")]),
+        Want::Features(2, &[2, 1], "", ""),
+    ),
+    (
+        "the first fault of several uses",
+        Ask::Uses(&[("l", "B"), ("x", "A"), ("l", "A")]),
+        Want::Row(10, "l"),
+    ),
+    (
+        "no such query",
+        Ask::Use(false, "urn:x:no", &[]),
+        Want::Row(24, "storedQuery_id"),
+    ),
+    (
+        "no feature by that id",
+        Ask::Use(false, BY_ID, &[("id", "Mark.9")]),
+        Want::Row(23, "id"),
+    ),
+    (
+        "by no id",
+        Ask::Use(false, BY_ID, &[("id", "Mark")]),
+        Want::Row(23, "id"),
+    ),
+    (
+        "a feature by its id",
+        Ask::Use(false, BY_ID_ADDRESS, &[("ID", "Mark.2")]),
+        Want::Bare(2),
+    ),
+    (
+        "by its id, counted",
+        Ask::Use(true, BY_ID, &[("id", "Mark.2")]),
+        Want::Features(1, &[], "", ""),
+    ),
+    (
+        "values",
+        Ask::Sizes(false, 0, Some(1)),
+        Want::Values(1, &[2], "", ""),
+    ),
+    (
+        "values, counted",
+        Ask::Sizes(true, 0, None),
+        Want::Values(1, &[], "", ""),
+    ),
+    (
+        "all described",
+        Ask::Describe(&[]),
+        Want::Described(&[BY_ID, BY_LABEL]),
+    ),
+    (
+        "described in the order of all",
+        Ask::Describe(&[BY_LABEL, BY_ID_ADDRESS, BY_ID]),
+        Want::Described(&[BY_ID, BY_LABEL]),
+    ),
+    (
+        "an unknown one",
+        Ask::Describe(&[BY_LABEL, "urn:x:no"]),
+        Want::Row(24, "storedQuery_id"),
+    ),
+];
+
+fn present(alloc: Global, hits: bool, start: u32, count: Option<u32>) -> Mem<Present> {
+    let link = Text::of(alloc, LINK)?;
+    Ok(Present {
+        start,
+        count,
+        hits,
+        link: Some(link),
+    })
+}
+
+fn marks(alloc: Global, filter: Option<Filter>) -> Query {
+    Query {
+        kind: Some(0),
+        filter,
+        sort: List::of(Vec::new(alloc)),
+    }
+}
+
+fn pair(alloc: Global, name: &str, value: &str) -> Mem<(Text, Text)> {
+    let name = Text::of(alloc, name)?;
+    let value = Text::of(alloc, value)?;
+    Ok((name, value))
+}
+
+fn given(alloc: Global, pairs: &[(&str, &str)]) -> Mem<List<(Text, Text)>> {
+    let mut all = Vec::new(alloc);
+    for one in pairs {
+        let (name, value) = *one;
+        all.push(pair(alloc, name, value)?)?;
+    }
+    Ok(List::of(all))
+}
+
+fn use_of(alloc: Global, id: &str, pairs: &[(&str, &str)]) -> Mem<Asked> {
+    let id = Text::of(alloc, id)?;
+    let given = given(alloc, pairs)?;
+    Ok(Asked::Stored { id, given })
+}
+
+fn only(alloc: Global, asked: Asked) -> Mem<List<Asked>> {
+    let mut all = Vec::new(alloc);
+    all.push(asked)?;
+    Ok(List::of(all))
+}
+
+fn uses_of(alloc: Global, pairs: &[(&str, &str)]) -> Mem<List<Asked>> {
+    let mut all = Vec::new(alloc);
+    for one in pairs {
+        let (name, value) = *one;
+        all.push(use_of(alloc, BY_LABEL, &[(name, value)])?)?;
+    }
+    Ok(List::of(all))
+}
+
+fn features_of(
+    alloc: Global,
+    asked: List<Asked>,
+    hits: bool,
+    start: u32,
+    count: Option<u32>,
+) -> Mem<Request> {
+    let present = present(alloc, hits, start, count)?;
+    Ok(Request::GetFeatures(present, asked))
+}
+
+fn sizes_of(alloc: Global, hits: bool, start: u32, count: Option<u32>) -> Mem<Request> {
+    let present = present(alloc, hits, start, count)?;
+    Ok(Request::GetValues(present, Asked::Plain(marks(alloc, None)), 1))
+}
+
+fn request_of(alloc: Global, ask: &Ask) -> Mem<Request> {
+    match ask {
+        Ask::Marks(hits, start, count) => {
+            let asked = only(alloc, Asked::Plain(marks(alloc, None)))?;
+            features_of(alloc, asked, *hits, *start, *count)
+        }
+        Ask::Use(hits, id, pairs) => {
+            let asked = only(alloc, use_of(alloc, *id, *pairs)?)?;
+            features_of(alloc, asked, *hits, 0, None)
+        }
+        Ask::Uses(pairs) => features_of(alloc, uses_of(alloc, *pairs)?, false, 0, None),
+        Ask::Sizes(hits, start, count) => sizes_of(alloc, *hits, *start, *count),
+        Ask::Describe(ids) => Ok(Request::DescribeStored(texts(alloc, *ids)?)),
+    }
+}
+
+/// Whether a link ends so behind its beginning, or is not there where nothing is wanted.
+fn ends_so(link: &Option<Text>, wanted: &str) -> bool {
+    match link {
+        None => wanted.is_empty(),
+        Some(text) => text.as_str().strip_prefix(LINK) == Some(wanted) && !wanted.is_empty(),
+    }
+}
+
+fn are_called(found: &[StoredQuery], wanted: &[&str]) -> bool {
+    if found.len() != wanted.len() {
+        return false;
+    }
+    for i in 0..found.len() {
+        if found[i].id.as_str() != wanted[i] {
+            return false;
+        }
+    }
+    true
+}
+
+fn is_wanted(reply: &Reply, want: &Want) -> bool {
+    match (reply, want) {
+        (
+            Reply::Collection {
+                moment: 1000,
+                matched,
+                features,
+                lock: None,
+                next,
+                previous,
+            },
+            Want::Features(number, found, behind, before),
+        ) => {
+            *matched == *number
+                && are_given(features.items(), *found)
+                && ends_so(next, *behind)
+                && ends_so(previous, *before)
+        }
+        (
+            Reply::Values {
+                moment: 1000,
+                matched,
+                property: 1,
+                features,
+                next,
+                previous,
+            },
+            Want::Values(number, found, behind, before),
+        ) => {
+            *matched == *number
+                && are_given(features.items(), *found)
+                && ends_so(next, *behind)
+                && ends_so(previous, *before)
+        }
+        (Reply::Bare(feature), Want::Bare(number)) => feature.id.number == *number,
+        (Reply::Refused(refusal), Want::Row(row, locator)) => {
+            refusal.row == *row && refusal.locator.as_str() == *locator
+        }
+        (Reply::StoredTexts(found), Want::Described(wanted)) => are_called(found.items(), *wanted),
+        _ => false,
+    }
+}
+
+/// The query by label, with the parameter `l`.
+fn by_label(alloc: Global) -> Mem<StoredQuery> {
+    let mut queries = Vec::new(alloc);
+    queries.push(marks(
+        alloc,
+        Some(Filter::Compare {
+            by: By::Equal,
+            left: Expr::Property(0),
+            right: Expr::Parameter(0),
+            fold: false,
+        }),
+    ))?;
+    let id = Text::of(alloc, BY_LABEL)?;
+    let title = Text::of(alloc, "")?;
+    let parameters = texts(alloc, &["l"])?;
+    let text = Text::of(alloc, "")?;
+    Ok(StoredQuery {
+        id,
+        title,
+        parameters,
+        queries: List::of(queries),
+        text,
+    })
+}
+
+fn definitions(alloc: Global, times: u32) -> Mem<List<StoredQuery>> {
+    let mut all = Vec::new(alloc);
+    for _ in 0..times {
+        all.push(by_label(alloc)?)?;
+    }
+    Ok(List::of(all))
+}
+
+fn create(stored: &mut Stored, definitions: List<StoredQuery>) -> Mem<Option<Text>> {
+    match stored.create(definitions) {
+        Ok(()) => Ok(None),
+        Err(StoredFault::DuplicateId(id)) => Ok(Some(id)),
+        Err(_) => Err(OutOfMemory),
+    }
+}
+
+fn stored(alloc: Global) -> Mem<Stored> {
+    let mut stored = Stored::new(alloc);
+    stored.reserve(1)?;
+    create(&mut stored, definitions(alloc, 1)?)?;
+    Ok(stored)
+}
+
+fn is_answer(
+    alloc: Global,
+    view: &SampleView,
+    stored: &Stored,
+    request: &Request,
+    want: &Want,
+) -> Mem<bool> {
+    if request.is_change() {
+        return Ok(false);
+    }
+    let reply = answer(alloc, view, stored, view.schema(), 1000, request)?;
+    Ok(is_wanted(&reply, want))
+}
+
+fn is_answered(
+    alloc: Global,
+    view: &SampleView,
+    stored: &Stored,
+    ask: &Ask,
+    want: &Want,
+) -> Mem<bool> {
+    let request = request_of(alloc, ask)?;
+    is_answer(alloc, view, stored, &request, want)
+}
+
+fn first_wrong(alloc: Global, view: &SampleView, stored: &Stored) -> Mem<Option<&'static str>> {
+    for row in ROWS.iter() {
+        let (what, ask, want) = row;
+        if !is_answered(alloc, view, stored, ask, want)? {
+            return Ok(Some(*what));
+        }
+    }
+    Ok(None)
+}
+
+fn wrong_over(alloc: Global, view: &SampleView) -> Mem<Option<&'static str>> {
+    let stored = stored(alloc)?;
+    first_wrong(alloc, view, &stored)
+}
+
+fn wrong_answer(alloc: Global) -> Mem<Option<&'static str>> {
+    let view = sample(alloc)?;
+    wrong_over(alloc, &view)
+}
+
+#[test]
+fn answers_reads(rt: HostRuntime) {
+    assert_eq!(rt; wrong_answer(rt.alloc()), Ok(None));
+}
+
+fn is_twice(alloc: Global, stored: &mut Stored, times: u32) -> Mem<bool> {
+    let definitions = definitions(alloc, times)?;
+    match create(stored, definitions)? {
+        None => Ok(false),
+        Some(id) => Ok(id.as_str() == BY_LABEL),
+    }
+}
+
+fn is_dropped(alloc: Global, stored: &mut Stored) -> Mem<bool> {
+    let id = Text::of(alloc, BY_LABEL)?;
+    Ok(stored.drop_query(id).is_ok())
+}
+
+/// What is wrong first with a list that is made, changed and emptied.
+fn wrong_change(alloc: Global) -> Mem<Option<&'static str>> {
+    let mut stored = stored(alloc)?;
+    if !is_twice(alloc, &mut stored, 1)? {
+        return Ok(Some("there already"));
+    }
+    if !is_dropped(alloc, &mut stored)? {
+        return Ok(Some("dropped"));
+    }
+    if is_dropped(alloc, &mut stored)? {
+        return Ok(Some("dropped again"));
+    }
+    if !is_twice(alloc, &mut stored, 2)? {
+        return Ok(Some("twice in one request"));
+    }
+    Ok(None)
+}
+
+#[test]
+fn changes_the_list(rt: HostRuntime) {
+    assert_eq!(rt; wrong_change(rt.alloc()), Ok(None));
+}
+
+/// For how many queries one stands.
+fn expanded(alloc: Global, stored: &Stored, asked: &Asked, schema: &Schema) -> Option<usize> {
+    match expand(alloc, stored, asked, schema) {
+        Ok(queries) => Some(queries.items().len()),
+        Err(_) => None,
+    }
+}
+
+/// For how many queries a use of the query by label stands.
+fn use_expanded(alloc: Global, stored: &Stored, schema: &Schema) -> Mem<Option<usize>> {
+    let asked = use_of(alloc, BY_LABEL, &[("l", "B")])?;
+    Ok(expanded(alloc, stored, &asked, schema))
+}
+
+fn of_label(alloc: Global, schema: &Schema) -> Mem<Option<usize>> {
+    let stored = stored(alloc)?;
+    use_expanded(alloc, &stored, schema)
+}
+
+fn number_expanded(alloc: Global) -> Mem<Option<usize>> {
+    let schema = schema(alloc)?;
+    of_label(alloc, &schema)
+}
+
+#[test]
+fn expands_a_use(rt: HostRuntime) {
+    assert_eq!(rt; number_expanded(rt.alloc()), Ok(Some(1)));
+}
