@@ -9,6 +9,11 @@ const STALE_CLOSED: &[u8] = b"\0WFSJNL\x01\0\0\0\0\0\0\0\x02\x01\0\0\0\x02hi\0";
 
 const NONE_CLOSED: &[u8] = b"\0WFSJNL\x01\0\0\0\0\0\0\0\x01\0";
 
+// generation 3 with no record, behind a byte 0 that is stale, and behind a closed one
+const TORN: &[u8] = b"\x05WFSJNL\x01\0\0\0\0\0\0\0\x03\0";
+
+const TORN_CLOSED: &[u8] = b"\0WFSJNL\x01\0\0\0\0\0\0\0\x03\0";
+
 const ZERO: &[u8] = b"\0";
 
 type Stop = (
@@ -71,4 +76,28 @@ pub(crate) static STOPS: &[Stop] = &[
     (EMPTY, EMPTY, true, 0, false, 9, EMPTY, EMPTY),
     (EMPTY, EMPTY, true, 1, false, 9, EMPTY, EMPTY),
     (EMPTY, EMPTY, true, 2, true, 0, NONE, EMPTY),
+    // No side is current, and both are stale. Side a: a sync and a read of the head; byte 0 and a sync. Side b then the same.
+    // Then side a is made as above, but that its byte 0 reads 0 and is not written again.
+    (TORN, STALE, false, 0, false, 9, TORN, STALE),
+    (TORN, STALE, false, 1, false, 9, TORN, STALE),
+    (TORN, STALE, false, 2, false, 9, TORN, STALE),
+    (TORN, STALE, false, 3, false, 0, TORN, STALE),
+    (TORN, STALE, false, 3, false, 1, TORN_CLOSED, STALE),
+    (TORN, STALE, false, 4, false, 9, TORN_CLOSED, STALE_CLOSED),
+    (TORN, STALE, false, 5, false, 9, TORN_CLOSED, STALE_CLOSED),
+    (TORN, STALE, false, 6, false, 9, TORN_CLOSED, STALE_CLOSED),
+    (TORN, STALE, false, 7, false, 0, TORN_CLOSED, STALE_CLOSED),
+    (TORN, STALE, false, 7, false, 1, ZERO, STALE_CLOSED),
+    (TORN, STALE, false, 8, false, 1, ZERO, STALE_CLOSED),
+    (TORN, STALE, false, 8, false, 2, NONE_CLOSED, STALE_CLOSED),
+    (TORN, STALE, false, 9, false, 9, NONE_CLOSED, STALE_CLOSED),
+    (TORN, STALE, false, 10, false, 0, NONE_CLOSED, STALE_CLOSED),
+    (TORN, STALE, false, 10, false, 1, NONE, STALE_CLOSED),
+    (TORN, STALE, false, 11, true, 0, NONE, STALE_CLOSED),
+    (TORN, STALE, true, 0, false, 9, TORN, STALE),
+    (TORN, STALE, true, 1, false, 9, TORN, STALE),
+    (TORN, STALE, true, 2, false, 9, TORN_CLOSED, STALE),
+    (TORN, STALE, true, 3, false, 0, TORN_CLOSED, STALE),
+    (TORN, STALE, true, 3, false, 1, TORN_CLOSED, STALE_CLOSED),
+    (TORN, STALE, true, 4, true, 0, NONE, STALE_CLOSED),
 ];
