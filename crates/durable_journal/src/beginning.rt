@@ -148,11 +148,16 @@ pub(crate) fn begin_opening<D: Disk>(
     } = recovered;
     let number = features.openings();
     if number >= LAST_OPENING {
+        // by a call, which knows nothing of their parts
+        drop((features, bodies));
         return Err((journal.into_disks(), OpenFault::Full(number)));
     }
     let mut journal = journal;
     match write_opening(alloc, &mut journal, &features) {
-        Err(fault) => Err((journal.into_disks(), fault)),
+        Err(fault) => {
+            drop((features, bodies));
+            Err((journal.into_disks(), fault))
+        }
         Ok(()) => {
             let mut features = features;
             features.apply(Change::Opening(number + 1));

@@ -42,6 +42,28 @@ fn counts_of(features: &Features) -> Counts
     }
 }
 
+// Looks over both files with a replay, and counts what their bodies come to.
+fn look_with<D: Disk>(
+    alloc: Global,
+    disks: &mut Pair<D>,
+    limit: u64,
+    replay: &mut Rebuild,
+) -> Result<Counts, OpenFault>
+    requires { limit ≤ greatest_side }
+    ensures counts { IfOk result (λ counts. (a b : List ℕ) → D.shown disks.old.a ≡ Some a → D.shown disks.old.b ≡ Some b
+        → AreCountsOf replay.old.schema (outcome_of (verdict_on replay.old.schema) limit a b) counts) }
+    ensures refused { IfErr result (λ fault. (a b : List ℕ) → D.shown disks.old.a ≡ Some a → D.shown disks.old.b ≡ Some b
+        → IsRefusedBy (outcome_of (verdict_on replay.old.schema) limit a b) fault) }
+    ensures unwritten { Untouched D.shown D.moment D.since D.images disks.old disks.new }
+    ensures count { NoneFell D.faults disks.old disks.new }
+    ensures cause { result ≡ Err OpenFault.DiskFault → OneRose D.faults disks.old disks.new }
+{
+    match look_over(alloc, disks, limit, replay) {
+        Err(fault) => Err(from_recovery(fault)),
+        Ok(_) => Ok(counts_of(replay.features())),
+    }
+}
+
 /// Tells what the journal on two files holds, where `limit` is that of a side's length, at most 268,435,456 bytes. It
 /// reads them as an opening does, and writes nothing. Where no side is current there is nothing but the types.
 ///
@@ -64,12 +86,14 @@ pub fn look_at_journal<D: Disk>(
     ensures count { NoneFell D.faults disks.old disks.new }
     ensures cause { result ≡ Err OpenFault.DiskFault → OneRose D.faults disks.old disks.new }
 {
-    let Ok(replay) = Rebuild::new(alloc, schema) else {
-        return Err(OpenFault::OutOfMemory);
-    };
-    let mut replay = replay;
-    match look_over(alloc, disks, limit, &mut replay) {
-        Err(fault) => Err(from_recovery(fault)),
-        Ok(_) => Ok(counts_of(replay.features())),
+    match Rebuild::new(alloc, schema) {
+        Err(_) => Err(OpenFault::OutOfMemory),
+        Ok(replay) => {
+            let mut replay = replay;
+            let found = look_with(alloc, disks, limit, &mut replay);
+            // by a call, which knows nothing of its parts
+            drop(replay);
+            found
+        }
     }
 }

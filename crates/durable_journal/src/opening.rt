@@ -64,7 +64,11 @@ fn recover_with<D: Disk>(
         Ok(replay) => {
             let mut replay = replay;
             match recover(alloc, disks, limit, &mut replay) {
-                Err((disks, fault)) => Err((disks, from_recovery(fault))),
+                Err((disks, fault)) => {
+                    // by a call, which knows nothing of its parts
+                    drop(replay);
+                    Err((disks, from_recovery(fault)))
+                }
                 Ok(journal) => {
                     let (features, bodies) = replay.into_parts();
                     Ok(Opened {

@@ -6,7 +6,7 @@ mod heads;
 mod lengths;
 mod sizes;
 
-use crate::{Next, Reader};
+use crate::{Message, Next, Reader};
 use std::alloc::Global;
 use wfs_ends::{Failed, Link, Mem, MemLink, OutOfMemory, Sink, Source};
 
@@ -60,33 +60,59 @@ fn ending(answer: &Next) -> &'static str {
     }
 }
 
+// Adds a message in words.
+fn add_message(text: &mut String, message: &Message) -> Mem<()> {
+    text.push_str(message.method.as_str())?;
+    text.push(' ')?;
+    text.push_str(message.target.as_str())?;
+    if message.close {
+        text.push('!')?;
+    }
+    text.push('[')?;
+    text.push_str(str::from_utf8(message.body.items()).unwrap_or("?"))?;
+    text.push_str("];")?;
+    Ok(())
+}
+
+// Adds what is read next in words, and tells whether it is a message.
+fn add_next(alloc: Global, link: &mut Pieces, reader: &mut Reader, text: &mut String) -> Mem<bool> {
+    match reader.next_message(alloc, link) {
+        Next::Message(message) => {
+            add_message(text, &message)?;
+            Ok(true)
+        }
+        answer => {
+            text.push_str(ending(&answer))?;
+            Ok(false)
+        }
+    }
+}
+
+// Adds in words what is read up to the ending.
+fn add_all(alloc: Global, link: &mut Pieces, reader: &mut Reader, text: &mut String) -> Mem<()> {
+    for _ in 0..9 {
+        if !add_next(alloc, link, reader, text)? {
+            break;
+        }
+    }
+    Ok(())
+}
+
+// Adds a sign for each interim line, or part of one.
+fn add_interim(text: &mut String, written: &[u8]) -> Mem<()> {
+    for line in written.chunks(CONTINUE.len()) {
+        text.push(if line == CONTINUE { '+' } else { '-' })?;
+    }
+    Ok(())
+}
+
 /// What is read of a link, in words: each message as method, target, `!` where the connection closes, and body; the
 /// ending; and `+` for each interim line, or `-` for a part of it.
 fn read_all(alloc: Global, link: &mut Pieces) -> Mem<String> {
     let mut text = String::new(alloc);
     let mut reader = Reader::new(alloc)?;
-    for _ in 0..9 {
-        match reader.next_message(alloc, link) {
-            Next::Message(message) => {
-                text.push_str(message.method.as_str())?;
-                text.push(' ')?;
-                text.push_str(message.target.as_str())?;
-                if message.close {
-                    text.push('!')?;
-                }
-                text.push('[')?;
-                text.push_str(str::from_utf8(message.body.items()).unwrap_or("?"))?;
-                text.push_str("];")?;
-            }
-            answer => {
-                text.push_str(ending(&answer))?;
-                break;
-            }
-        }
-    }
-    for line in link.inner.written().chunks(CONTINUE.len()) {
-        text.push(if line == CONTINUE { '+' } else { '-' })?;
-    }
+    add_all(alloc, link, &mut reader, &mut text)?;
+    add_interim(&mut text, link.inner.written())?;
     Ok(text)
 }
 

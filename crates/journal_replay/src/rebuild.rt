@@ -101,6 +101,13 @@ fn take(
     play(alloc, is_first, features, bodies, change, body)
 }
 
+// Puts a value in a place.
+fn set<T: Drop>(place: &mut T, value: T)
+    ensures { place.new ≡ value }
+{
+    *place = value;
+}
+
 impl Rebuild {
     /// A replay for journals of this schema, which has taken no body.
     ///
@@ -190,7 +197,7 @@ impl Replay for Rebuild {
                     is_first,
                     body,
                 )?;
-                self.played = Some(features);
+                set(&mut self.played, Some(features));
                 Ok(())
             }
         }

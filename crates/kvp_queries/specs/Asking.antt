@@ -6,6 +6,7 @@ use Rattle.wfs_ends.specs.Read.{◌>>=◌, unless}
 use Rattle.feature_values.specs.declared.schema.Schema.{Schema}
 use Rattle.fes_filter.specs.Check.{type_in, property_in}
 use Rattle.fes_filter.specs.declared.query.Query.{Query}
+use Rattle.fes_filter.specs.declared.query.SortKey.{SortKey}
 use Rattle.wfs_model.specs.Terms.{refused}
 use Rattle.wfs_model.specs.declared.asked.Asked.{Asked}
 use Rattle.wfs_model.specs.declared.asked.Asked.TheVariants.{Plain, Stored}
@@ -21,6 +22,13 @@ use Rattle.kvp_queries.specs.Sorting.{keys_of}
 unfoldable pub property_name_of : Said → Ask (Unit {0})
 property_name_of said =
     passing (λ text. bytes_eq text (codes "*")) (refused 12 (codes "propertyName")) (said (codes "propertyName"))
+
+-- the order of features, which come with all their properties
+unfoldable pub sorted_of : Schema → Option ℕ → Said → Ask (List SortKey)
+sorted_of schema kind said = do
+  sort ← keys_of schema kind said
+  _ ← property_name_of said
+  Ok sort
 
 -- a type, a choice among its features, and their order
 unfoldable pub query_of : Schema → Said → Ask Query

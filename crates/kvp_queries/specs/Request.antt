@@ -69,6 +69,13 @@ features_of schema pairs said = do
   _ ← enough_of said
   Ok (GetFeatures (presented page (Some (link_of schema.address pairs))) (asked_by GetFeature pairs said query ∷ []))
 
+-- the name of the property whose values are asked for, where enough is named
+unfoldable pub reference_of : Said → Ask (List ℕ)
+reference_of said = do
+  name ← required_of (codes "valueReference") said
+  _ ← enough_of said
+  Ok name
+
 unfoldable pub values_of : Schema → List Pair → Said → Ask Request
 values_of schema pairs said = do
   page ← page_of said
@@ -80,6 +87,14 @@ values_of schema pairs said = do
 
 -- ---- locks: GetFeatureWithLock (section 13), LockFeature (12)
 
+-- how long features are locked and which, where enough is named
+unfoldable pub held_of : Said → Ask (ℕ × Take)
+held_of said = do
+  period ← period_of said
+  take ← take_of said
+  _ ← enough_of said
+  Ok (period, take)
+
 unfoldable pub locked_of : Schema → List Pair → Said → Ask Request
 locked_of schema pairs said = do
   page ← locked_page_of said
@@ -88,6 +103,10 @@ locked_of schema pairs said = do
   take ← take_of said
   _ ← enough_of said
   Ok (GetLocked (presented page None) (asked_by GetFeatureWithLock pairs said query ∷ []) take period)
+
+-- how long a new lock lives, where enough is named
+unfoldable pub new_period : Said → Ask ℕ
+new_period said = enough_of said >>= λ _. period_of said
 
 -- a new lock
 unfoldable pub new_lock : Schema → List Pair → Said → Take → Ask Request

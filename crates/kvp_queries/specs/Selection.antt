@@ -129,6 +129,10 @@ alone ids filter area = do
 unfoldable pub only_one : Option Filter → Option Filter → Option Filter → Ask (Option Filter)
 only_one ids filter area = alone (is_some ids) (is_some filter) (is_some area) >>= λ _. Ok (or_else ids (or_else filter area))
 
+-- what resource ids and a box stand for
+unfoldable pub others : Schema → Said → Ask (Option Filter × Option Filter)
+others schema said = box_filter schema said >>= λ area. Ok (ids_filter schema said, area)
+
 -- what features are chosen by
 unfoldable pub chosen : Schema → Option ℕ → Said → Ask (Option Filter)
 chosen schema kind said = do

@@ -1,16 +1,18 @@
 //! What a query asks for of the features: a query of its own, or the use of a stored one.
 
-ghost use Rattle.std.specs.Prelude.{◌≡◌, [], ◌∷◌, ◌++◌, IfOk};
+ghost use Rattle.std.specs.Prelude.{◌≡◌, [], ◌∷◌, ◌++◌, None, IfOk};
 ghost use Rattle.wfs_ends.specs.Read.{GivesBut};
+ghost use Rattle.wfs_model.specs.declared.asked.Asked.TheVariants.{Stored};
 ghost use Rattle.request_terms.specs.declared.operation.Operation.TheVariants.{GetPropertyValue};
 ghost use Rattle.kvp_queries.specs.Pairs.{said_by, parameters_of};
-ghost use Rattle.kvp_queries.specs.Asking.{property_name_of, query_of, stored_id, enough_of, asked_by, property_of, valued};
+ghost use Rattle.kvp_queries.specs.Asking.{property_name_of, sorted_of, query_of, stored_id, enough_of, asked_by, property_of, valued};
 
+use crate::lists::one;
 use crate::pairs::{Listed, add_parameters};
 use crate::selecting::{chosen, type_names_of, type_of};
 use crate::sorting::keys_of;
 use feature_values::Schema;
-use fes_filter::{Query, property_in, type_in};
+use fes_filter::{Query, SortKey, property_in, type_in};
 use request_terms::{Given, Operation, srs_of};
 use std::alloc::Global;
 use wfs_ends::{List, Mem, Text};
@@ -30,16 +32,30 @@ fn property_name_of(alloc: Global, listed: &Listed) -> Result<(), AskFault>
     Ok(())
 }
 
+// The order of features, which come with all their properties.
+#[tactic(auto, unfolding(crate::specs::Asking::sorted_of))]
+fn sorted_of(
+    alloc: Global,
+    schema: &Schema,
+    kind: Option<u32>,
+    listed: &Listed,
+) -> Result<List<SortKey>, AskFault>
+    ensures { GivesBut AskFault.OutOfMemory (λ sort. sort) result (sorted_of schema.now kind (said_by listed.now.pairs)) }
+{
+    let sort = keys_of(alloc, schema, kind, listed)?;
+    property_name_of(alloc, listed)?;
+    Ok(sort)
+}
+
 // A type, a choice among its features, and their order.
-#[tactic(auto, unfolding(crate::specs::Asking::query_of))]
+#[tactic(auto, unfolding(crate::specs::Asking::query_of, crate::specs::Asking::sorted_of))]
 pub(crate) fn query_of(alloc: Global, schema: &Schema, listed: &Listed) -> Result<Query, AskFault>
     ensures { GivesBut AskFault.OutOfMemory (λ q. q) result (query_of schema.now (said_by listed.now.pairs)) }
 {
     let kind = type_of(alloc, schema, listed)?;
     srs_of(alloc, schema.srs.items(), listed)?;
     let filter = chosen(alloc, schema, kind, listed)?;
-    let sort = keys_of(alloc, schema, kind, listed)?;
-    property_name_of(alloc, listed)?;
+    let sort = sorted_of(alloc, schema, kind, listed)?;
     Ok(Query { kind, filter, sort })
 }
 
@@ -70,9 +86,23 @@ fn parameters_of(
     Ok(List::of(given))
 }
 
+// The use of a stored query.
+fn asked_stored(
+    alloc: Global,
+    operation: Operation,
+    pairs: &[(Text, Text)],
+    id: &Text,
+) -> Mem<Asked>
+    ensures { IfOk result (λ asked. asked ≡ Stored id.now (parameters_of operation pairs.now)) }
+{
+    let id = id.copy(alloc)?;
+    let given = parameters_of(alloc, operation, pairs)?;
+    Ok(Asked::Stored { id, given })
+}
+
 // What an operation asks for: the stored query with its parameters, where one is named, and else the query.
 #[tactic(auto, unfolding(crate::specs::Asking::asked_by))]
-pub(crate) fn asked_by(
+fn asked_by(
     alloc: Global,
     operation: Operation,
     pairs: &[(Text, Text)],
@@ -83,12 +113,22 @@ pub(crate) fn asked_by(
 {
     match listed.value_of("storedQuery_id") {
         None => Ok(Asked::Plain(query)),
-        Some(id) => {
-            let id = id.copy(alloc)?;
-            let given = parameters_of(alloc, operation, pairs)?;
-            Ok(Asked::Stored { id, given })
-        }
+        Some(id) => asked_stored(alloc, operation, pairs, id),
     }
+}
+
+// What an operation asks for, alone.
+pub(crate) fn all_asked(
+    alloc: Global,
+    operation: Operation,
+    pairs: &[(Text, Text)],
+    listed: &Listed,
+    query: Query,
+) -> Mem<List<Asked>>
+    ensures { IfOk result (λ all. all ≡ asked_by operation pairs.now (said_by listed.now.pairs) query ∷ []) }
+{
+    let asked = asked_by(alloc, operation, pairs, listed, query)?;
+    one(alloc, asked)
 }
 
 // ---- values
@@ -121,6 +161,28 @@ fn valued_parameters(alloc: Global, pairs: &[(Text, Text)], name: Text) -> Mem<L
     Ok(List::of(given))
 }
 
+// The use of a stored query whose features' values are asked for.
+fn valued_stored(alloc: Global, pairs: &[(Text, Text)], id: &Text, name: Text) -> Mem<(Asked, u32)>
+    ensures { IfOk result (λ x. x ≡ (Stored id.now (([], name) ∷ parameters_of GetPropertyValue pairs.now), 0)) }
+{
+    let given = valued_parameters(alloc, pairs, name)?;
+    let id = id.copy(alloc)?;
+    Ok((Asked::Stored { id, given }, 0))
+}
+
+// A query and the property whose values are asked for.
+fn valued_plain(
+    alloc: Global,
+    schema: &Schema,
+    query: Query,
+    name: &str,
+) -> Result<(Asked, u32), AskFault>
+    ensures { GivesBut AskFault.OutOfMemory (λ x. x) result (valued schema.now [] query name.now None) }
+{
+    let property = property_of(alloc, schema, query.kind, name)?;
+    Ok((Asked::Plain(query), property))
+}
+
 // What has values, and the property whose values are asked for.
 pub(crate) fn valued(
     alloc: Global,
@@ -132,11 +194,8 @@ pub(crate) fn valued(
 ) -> Result<(Asked, u32), AskFault>
     ensures { GivesBut AskFault.OutOfMemory (λ x. x) result (valued schema.now pairs.now query name (stored_id (said_by listed.now.pairs))) }
 {
-    let Some(id) = listed.value_of("storedQuery_id") else {
-        let property = property_of(alloc, schema, query.kind, name.as_str())?;
-        return Ok((Asked::Plain(query), property));
-    };
-    let id = id.copy(alloc)?;
-    let given = valued_parameters(alloc, pairs, name)?;
-    Ok((Asked::Stored { id, given }, 0))
+    match listed.value_of("storedQuery_id") {
+        None => valued_plain(alloc, schema, query, name.as_str()),
+        Some(id) => Ok(valued_stored(alloc, pairs, id, name)?),
+    }
 }

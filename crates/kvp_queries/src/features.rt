@@ -4,11 +4,10 @@ ghost use Rattle.std.specs.Prelude.{◌≡◌, Some, IfOk};
 ghost use Rattle.wfs_ends.specs.Read.{GivesBut};
 ghost use Rattle.request_terms.specs.Paging.{presented};
 ghost use Rattle.kvp_queries.specs.Pairs.{said_by, link_of};
-ghost use Rattle.kvp_queries.specs.Request.{features_of, values_of};
+ghost use Rattle.kvp_queries.specs.Request.{features_of, reference_of, values_of};
 
-use crate::asking::{asked_by, enough_of, query_of, valued};
+use crate::asking::{all_asked, enough_of, query_of, valued};
 use crate::link::link_of;
-use crate::lists::one;
 use crate::pairs::Listed;
 use feature_values::Schema;
 use request_terms::{Operation, Page, page_of, required_of};
@@ -37,13 +36,23 @@ pub(crate) fn features_of(
     let page = page_of(alloc, listed)?;
     let query = query_of(alloc, schema, listed)?;
     enough_of(alloc, listed)?;
-    let asked = asked_by(alloc, Operation::GetFeature, pairs, listed, query)?;
+    let all = all_asked(alloc, Operation::GetFeature, pairs, listed, query)?;
     let present = linked(alloc, schema, pairs, page)?;
-    Ok(Request::GetFeatures(present, one(alloc, asked)?))
+    Ok(Request::GetFeatures(present, all))
+}
+
+// The name of the property whose values are asked for, where enough is named.
+#[tactic(auto, unfolding(crate::specs::Request::reference_of))]
+fn reference_of(alloc: Global, listed: &Listed) -> Result<Text, AskFault>
+    ensures { GivesBut AskFault.OutOfMemory (λ x. x) result (reference_of (said_by listed.now.pairs)) }
+{
+    let name = required_of(alloc, listed, "valueReference")?;
+    enough_of(alloc, listed)?;
+    Ok(name)
 }
 
 // GetPropertyValue.
-#[tactic(auto, unfolding(crate::specs::Request::values_of))]
+#[tactic(auto, unfolding(crate::specs::Request::values_of, crate::specs::Request::reference_of))]
 pub(crate) fn values_of(
     alloc: Global,
     schema: &Schema,
@@ -54,8 +63,7 @@ pub(crate) fn values_of(
 {
     let page = page_of(alloc, listed)?;
     let query = query_of(alloc, schema, listed)?;
-    let name = required_of(alloc, listed, "valueReference")?;
-    enough_of(alloc, listed)?;
+    let name = reference_of(alloc, listed)?;
     let (asked, property) = valued(alloc, schema, pairs, listed, query, name)?;
     let present = linked(alloc, schema, pairs, page)?;
     Ok(Request::GetValues(present, asked, property))

@@ -3,10 +3,9 @@
 ghost use Rattle.wfs_ends.specs.Read.{GivesBut};
 ghost use Rattle.std.specs.Prelude.{◌≡◌};
 ghost use Rattle.kvp_queries.specs.Pairs.{said_by};
-ghost use Rattle.kvp_queries.specs.Request.{locked_of, new_lock, names_features, chooses_features, asks_for_features, renewed, lock_asked};
+ghost use Rattle.kvp_queries.specs.Request.{held_of, locked_of, new_period, new_lock, names_features, chooses_features, asks_for_features, renewed, lock_asked};
 
-use crate::asking::{asked_by, enough_of, query_of};
-use crate::lists::one;
+use crate::asking::{all_asked, enough_of, query_of};
 use crate::pairs::Listed;
 use crate::selecting::type_names_of;
 use feature_values::Schema;
@@ -15,8 +14,19 @@ use std::alloc::Global;
 use wfs_ends::Text;
 use wfs_model::{AskFault, LockId, Request, Take, refused};
 
+// How long features are locked and which, where enough is named.
+#[tactic(auto, unfolding(crate::specs::Request::held_of))]
+fn held_of(alloc: Global, listed: &Listed) -> Result<(u32, Take), AskFault>
+    ensures { GivesBut AskFault.OutOfMemory (λ x. x) result (held_of (said_by listed.now.pairs)) }
+{
+    let period = period_of(alloc, listed)?;
+    let take = take_of(alloc, listed)?;
+    enough_of(alloc, listed)?;
+    Ok((period, take))
+}
+
 // GetFeatureWithLock.
-#[tactic(auto, unfolding(crate::specs::Request::locked_of))]
+#[tactic(auto, unfolding(crate::specs::Request::locked_of, crate::specs::Request::held_of))]
 pub(crate) fn locked_of(
     alloc: Global,
     schema: &Schema,
@@ -27,20 +37,27 @@ pub(crate) fn locked_of(
 {
     let page = locked_page_of(alloc, listed)?;
     let query = query_of(alloc, schema, listed)?;
-    let period = period_of(alloc, listed)?;
-    let take = take_of(alloc, listed)?;
-    enough_of(alloc, listed)?;
-    let asked = asked_by(alloc, Operation::GetFeatureWithLock, pairs, listed, query)?;
+    let (period, take) = held_of(alloc, listed)?;
+    let asked = all_asked(alloc, Operation::GetFeatureWithLock, pairs, listed, query)?;
     Ok(Request::GetLocked {
         present: page.presented(None),
-        asked: one(alloc, asked)?,
+        asked,
         take,
         period,
     })
 }
 
+// How long a new lock lives, where enough is named.
+#[tactic(auto, unfolding(crate::specs::Request::new_period))]
+fn new_period(alloc: Global, listed: &Listed) -> Result<u32, AskFault>
+    ensures { GivesBut AskFault.OutOfMemory (λ x. x) result (new_period (said_by listed.now.pairs)) }
+{
+    enough_of(alloc, listed)?;
+    period_of(alloc, listed)
+}
+
 // A new lock.
-#[tactic(auto, unfolding(crate::specs::Request::new_lock))]
+#[tactic(auto, unfolding(crate::specs::Request::new_lock, crate::specs::Request::new_period))]
 fn new_lock(
     alloc: Global,
     schema: &Schema,
@@ -51,11 +68,10 @@ fn new_lock(
     ensures { GivesBut AskFault.OutOfMemory (λ r. r) result (new_lock schema.now pairs.now (said_by listed.now.pairs) take) }
 {
     let query = query_of(alloc, schema, listed)?;
-    enough_of(alloc, listed)?;
-    let period = period_of(alloc, listed)?;
-    let asked = asked_by(alloc, Operation::LockFeature, pairs, listed, query)?;
+    let period = new_period(alloc, listed)?;
+    let asked = all_asked(alloc, Operation::LockFeature, pairs, listed, query)?;
     Ok(Request::Lock {
-        asked: one(alloc, asked)?,
+        asked,
         take,
         period,
     })

@@ -7,7 +7,7 @@ ghost use Rattle.doc_read.specs.Document.{document};
 ghost use Rattle.fes_docs.specs.Filters.{filter_of};
 ghost use Rattle.query_docs.specs.Elements.{refusal_by, or_refusal};
 ghost use Rattle.kvp_queries.specs.Pairs.{or_else, said_by};
-ghost use Rattle.kvp_queries.specs.Selection.{type_names_of, one_type, type_of, id_of, ids_in, ids_filter, or_no_document, filter_in, document_filter, corner_at, box_between, box_in, box_filter, alone, only_one, chosen};
+ghost use Rattle.kvp_queries.specs.Selection.{type_names_of, one_type, type_of, id_of, ids_in, ids_filter, or_no_document, filter_in, document_filter, corner_at, box_between, box_in, box_filter, alone, only_one, others, chosen};
 
 use crate::lists::{cut, has_comma};
 use crate::pairs::Listed;
@@ -261,12 +261,28 @@ fn only_one(
 ) -> Result<Option<Filter>, AskFault>
     ensures { GivesBut AskFault.OutOfMemory (λ f. f) result (only_one ids filter area) }
 {
-    alone(alloc, ids.is_some(), filter.is_some(), area.is_some())?;
-    Ok(or_else(ids, or_else(filter, area)))
+    let judged = alone(alloc, ids.is_some(), filter.is_some(), area.is_some());
+    let one = or_else(ids, or_else(filter, area));
+    judged?;
+    Ok(one)
+}
+
+// What resource ids and a box stand for.
+#[tactic(auto, unfolding(crate::specs::Selection::others))]
+fn others(
+    alloc: Global,
+    schema: &Schema,
+    listed: &Listed,
+) -> Result<(Option<Filter>, Option<Filter>), AskFault>
+    ensures { GivesBut AskFault.OutOfMemory (λ x. x) result (others schema.now (said_by listed.now.pairs)) }
+{
+    let area = box_filter(alloc, schema, listed)?;
+    let ids = ids_filter(alloc, schema, listed)?;
+    Ok((ids, area))
 }
 
 // What features are chosen by.
-#[tactic(auto, unfolding(crate::specs::Selection::chosen))]
+#[tactic(auto, unfolding(crate::specs::Selection::chosen, crate::specs::Selection::others))]
 pub(crate) fn chosen(
     alloc: Global,
     schema: &Schema,
@@ -276,7 +292,6 @@ pub(crate) fn chosen(
     ensures { GivesBut AskFault.OutOfMemory (λ f. f) result (chosen schema.now kind (said_by listed.now.pairs)) }
 {
     let filter = document_filter(alloc, schema, kind, listed)?;
-    let area = box_filter(alloc, schema, listed)?;
-    let ids = ids_filter(alloc, schema, listed)?;
+    let (ids, area) = others(alloc, schema, listed)?;
     only_one(alloc, ids, filter, area)
 }

@@ -32,30 +32,31 @@ fn a_counting_sink_counts_the_bytes_of_all_puts(rt: HostRuntime) -> Result<(), F
     Ok(())
 }
 
+// Whether two bytes go out of a source, which then fails, and two into a sink.
+fn moves_both_ways(source: &mut MemSource, sink: &mut MemSink) -> bool {
+    let mut joined = Joined { source, sink };
+    let mut into = [0u8; 2];
+    let taken = joined.take(&mut into) == Ok(2) && joined.take(&mut into).is_err();
+    let put = put_all(&mut joined, b"xy") == Ok(());
+    taken && put && into.as_slice() == b"ab".as_slice()
+}
+
 #[test]
 fn a_joined_link_moves_the_bytes_of_its_halves(rt: HostRuntime) -> Result<(), Fail> {
     let alloc = rt.alloc();
     let mut source = MemSource::new(vec![in alloc; b'a', b'b', b'c']?, vec![in alloc; 1]?);
     let mut sink = MemSink::new(alloc, 10, Vec::new(alloc))?;
-    let mut into = [0u8; 2];
-    {
-        let mut joined = Joined {
-            source: &mut source,
-            sink: &mut sink,
-        };
-        assert_eq!(rt; joined.take(&mut into), Ok(2));
-        assert!(rt; joined.take(&mut into).is_err());
-        assert_eq!(rt; put_all(&mut joined, b"xy"), Ok(()));
-    }
-    assert_eq!(rt; into.as_slice(), b"ab".as_slice());
+    assert!(rt; moves_both_ways(&mut source, &mut sink));
     assert_eq!(rt; sink.bytes(), b"xy".as_slice());
-    let mut link = MemLink::new(
-        alloc,
-        vec![in alloc; b'q']?,
-        3,
-        Vec::new(alloc),
-        Vec::new(alloc),
-    )?;
+    Ok(())
+}
+
+#[test]
+fn a_link_in_memory_moves_its_bytes(rt: HostRuntime) -> Result<(), Fail> {
+    let alloc = rt.alloc();
+    let bytes = vec![in alloc; b'q']?;
+    let mut link = MemLink::new(alloc, bytes, 3, Vec::new(alloc), Vec::new(alloc))?;
+    let mut into = [0u8; 2];
     assert_eq!(rt; link.take(&mut into), Ok(1));
     assert_eq!(rt; put_all(&mut link, b"mno"), Ok(()));
     assert_eq!(rt; link.written(), b"mno".as_slice());
@@ -90,7 +91,7 @@ fn a_buffer_makes_one_put_of_many_and_passes_a_long_piece_on(rt: HostRuntime) ->
 }
 
 #[test]
-fn texts_lists_boxes_and_clocks_copy_as_they_are(rt: HostRuntime) -> Result<(), Fail> {
+fn texts_copy_as_they_are(rt: HostRuntime) -> Result<(), Fail> {
     let alloc = rt.alloc();
     let text = Text::of(alloc, "Straße")?;
     assert_eq!(rt; text.copy(alloc)?.as_str(), "Straße");
@@ -98,11 +99,23 @@ fn texts_lists_boxes_and_clocks_copy_as_they_are(rt: HostRuntime) -> Result<(), 
         Text::of_string(String::from_str(alloc, "Mark")?)?.as_str(),
         "Mark"
     );
+    Ok(())
+}
+
+#[test]
+fn lists_and_boxes_hold_their_items(rt: HostRuntime) -> Result<(), Fail> {
+    let alloc = rt.alloc();
     let list = List::of(vec![in alloc; 3u8, 4]?);
     assert_eq!(rt; list.items(), [3, 4].as_slice());
     assert_eq!(rt; list.into_items().as_slice(), [3, 4].as_slice());
     assert_eq!(rt; *Boxed::new(alloc, 7u8)?.item(), 7);
     assert_eq!(rt; Boxed::new(alloc, 8u8)?.into_item(), 8);
+    Ok(())
+}
+
+#[test]
+fn a_clock_and_its_twin_go_on_alike(rt: HostRuntime) -> Result<(), Fail> {
+    let alloc = rt.alloc();
     let mut clock = ListClock::new(vec![in alloc; 5u64, 9]?);
     assert_eq!(rt; clock.now(), 5);
     let mut twin = clock.twin(alloc)?;

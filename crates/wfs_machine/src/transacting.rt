@@ -85,7 +85,9 @@ impl Plain {
         requires planned { transaction self.old.schema self.old.state moment request.now ≡ Well planned }
         ensures { Settles self.old moment (carried self.old.schema self.old.state moment request.now) result self.new }
     {
+        // what is given up is dropped by calls, which know nothing of its parts
         let Request::Transact { lock, release, .. } = request else {
+            drop(planned);
             return Err(OutOfMemory);
         };
         let Planned {
@@ -94,12 +96,17 @@ impl Plain {
             touched,
         } = planned;
         let Change::Rows(parts) = change else {
+            drop((change, reply, touched));
             return Err(OutOfMemory);
         };
-        self.features.reserve(parts.items().len())?;
+        let Ok(()) = self.features.reserve(parts.items().len()) else {
+            drop((parts, reply, touched));
+            return Err(OutOfMemory);
+        };
         play_rows(self.alloc, &mut self.features, &mut self.counters, parts);
         release_if(&mut self.locks, moment, *lock, &touched, *release);
         self.last = moment;
+        drop(touched);
         Ok(reply)
     }
 

@@ -1,9 +1,11 @@
 //! Update.
 
-ghost use Rattle.std.specs.Prelude.{◌≡◌, ℕ, [], ◌∷◌, ◌++◌, None, Some, OnOk};
+ghost use Rattle.std.specs.Prelude.{◌≡◌, ◌==◌, ℕ, [], ◌∷◌, ◌++◌, length, None, Some, OnOk};
 ghost use Rattle.std.specs.Option.{option_copied};
-ghost use Rattle.wfs_ends.specs.Read.{GivesBut, each};
+ghost use Rattle.wfs_ends.specs.Read.{GivesBut, each, unless};
 ghost use Rattle.wfs_model.specs.OfSchema.{property_at};
+ghost use Rattle.request_terms.specs.Elements.{misplaced};
+ghost use Rattle.wfs_requests.specs.Base.{children_of};
 ghost use Rattle.wfs_requests.specs.Updates.{is_replace, way_of, reference_of, set_content, set_value, new_value, value_at, set_by, set_in, set_of, so_far, with_set, with_filter, next_change, update_others, update_of};
 
 use crate::changes::{property_of, selected, type_of};
@@ -241,6 +243,32 @@ fn all_changes(
     Ok(())
 }
 
+// The new values and the choice that an Update says.
+fn changes_of(
+    alloc: Global,
+    schema: &Schema,
+    kind: u32,
+    elements: &[Element],
+) -> Result<(List<(u32, Value)>, Option<Filter>), AskFault>
+    ensures { GivesBut AskFault.OutOfMemory (λ x. so_far x.0 x.1) result (each (next_change schema.now kind) (so_far [] None) elements.now) }
+{
+    let mut sets = Vec::new(alloc);
+    let mut filter = None;
+    all_changes(alloc, schema, kind, &mut sets, &mut filter, elements)?;
+    Ok((List::of(sets), filter))
+}
+
+// Refuses an Update that says nothing.
+#[tactic(auto, unfolding(wfs_ends::specs::Read::unless))]
+fn says_something(alloc: Global, element: &Element) -> Result<(), AskFault>
+    ensures { GivesBut AskFault.OutOfMemory (λ x. x) result (unless (length (children_of element.now) == 0) (misplaced element.now)) }
+{
+    if element.children.items().is_empty() {
+        return Err(misplaced(alloc, element));
+    }
+    Ok(())
+}
+
 // Refuses attributes that an Update has not.
 #[tactic(auto, unfolding(crate::specs::Updates::update_others))]
 fn update_others(alloc: Global, element: &Element) -> Result<(), AskFault>
@@ -265,18 +293,13 @@ pub(crate) fn update_of(
     let kind = type_of(alloc, schema, element)?;
     income_of(alloc, schema, element)?;
     update_others(alloc, element)?;
-    let elements = element.children.items();
-    let mut sets = Vec::new(alloc);
-    let mut filter = None;
-    all_changes(alloc, schema, kind, &mut sets, &mut filter, elements)?;
-    if elements.is_empty() {
-        return Err(misplaced(alloc, element));
-    }
     let handle = value_of(alloc, &Attributes { of: element }, "handle")?;
+    let (sets, filter) = changes_of(alloc, schema, kind, element.children.items())?;
+    says_something(alloc, element)?;
     Ok(Action::Update {
         handle,
         kind,
-        sets: List::of(sets),
+        sets,
         filter,
     })
 }

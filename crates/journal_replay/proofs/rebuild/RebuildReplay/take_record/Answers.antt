@@ -1,7 +1,7 @@
 use Rattle.std.proofs.Common.{◌≡◌, Ok, Err, length, sym, ap, subst, ◌∙◌}
 use Rattle.std.proofs.lemmas.Result.{err_from_is_err_and}
 use Rattle.recovery.specs.Replay.{Answers}
-use Rattle.journal_replay.specs.Rebuilt.{Rebuilt, state_of}
+use Rattle.journal_replay.specs.Rebuilt.{Rebuilt, IsRebuilt, state_of}
 use Rattle.journal_replay.specs.Replayed.{verdict_on}
 use Rattle.journal_replay.proofs.Rebuilding.{Begins, Tries, begins_anew, still_rebuilt, answers_well}
 use Rattle.journal_replay.proofs.rebuild.RebuildReplay.take_record.Goals as goal
@@ -34,8 +34,9 @@ invariant_of-self-in-None c =
     let copy = c.in_ok-features-in-None in
     let took = c.in_ok-take-in-None in
     let here = begins_anew c.self.inside.empty copy.features c.self.inside.played c.self.inside.bodies c.args.number copy.ensures.schema copy.ensures.kept c.in-None.is (c.requires ∙ ap length (sym of_view)) in
-    still_rebuilt c.self.inside.signature c.self.inside.empty copy.features c.take-in-None.new.features c.self.inside.played c.self.inside.bodies c.take-in-None.new.bodies c.args.number c.args.body.now (Ok took.field-0) c.self.invariant here
-    (record { kept = took.ensures.kept; same = took.ensures.same; schema = took.ensures.schema; bodies = took.ensures.bodies })
+    subst (λ played. IsRebuilt c.self.inside.signature c.self.inside.empty played c.take-in-None.new.bodies) (sym c.set.ensures)
+    (still_rebuilt c.self.inside.signature c.self.inside.empty copy.features c.take-in-None.new.features c.self.inside.played c.self.inside.bodies c.take-in-None.new.bodies c.args.number c.args.body.now (Ok took.field-0) c.self.invariant here
+    (record { kept = took.ensures.kept; same = took.ensures.same; schema = took.ensures.schema; bodies = took.ensures.bodies }))
 
 pub returns-in_ok-take-in-None-clause-answer : goal.returns-in_ok-take-in-None-clause-answer
 returns-in_ok-take-in-None-clause-answer c =

@@ -18,7 +18,7 @@ release_if-requires-clause-live c =
     subst (λ (ls : List Lock). IfSome c.in-Transact.lock (λ id. IsTrue (is_live_number ls c.args.moment id.number))) (sym (ap (λ m. m.state.locks) c.self.view_is))
     (plan_is_live schema state c.args.moment c.in-Transact.lock c.in-Transact.actions found.plan found.is)
 
-left_by : (c : goal.After-drop-touched-inside-2) → Leaves c.args.self.now.state c.args.moment c.in-Transact.lock c.in-Transact.release c.args.planned c.in-Rows.parts (record {
+left_by : (c : goal.After-drop-2) → Leaves c.args.self.now.state c.args.moment c.in-Transact.lock c.in-Transact.release c.args.planned c.in-Rows.parts (record {
   features = c.play_rows.new.features.items;
   counters = c.play_rows.new.counters;
   stored = c.self.inside.stored.list;
@@ -29,7 +29,7 @@ left_by : (c : goal.After-drop-touched-inside-2) → Leaves c.args.self.now.stat
 })
 left_by c =
     let state = c.args.self.now.state in
-    let features = c.in_ok-reserve.ensures.items ∙ ap (λ m. m.state.features) c.self.view_is in
+    let features = c.in-Ok.ensures.items ∙ ap (λ m. m.state.features) c.self.view_is in
     let counters = ap (λ m. m.state.counters) c.self.view_is in
     record {
       rows = rw (features, counters) at c.play_rows.ensures (durable state);
@@ -40,7 +40,7 @@ left_by c =
       last = refl;
     }
 
-kept_at : (c : goal.After-drop-touched-inside-2) → IsKept c.args.self.now.schema (durable c.args.self.now.state)
+kept_at : (c : goal.After-drop-2) → IsKept c.args.self.now.schema (durable c.args.self.now.state)
 kept_at c = subst (λ (m : Machine). IsKept m.schema (durable m.state)) c.self.view_is c.self.invariant.kept
 
 pub invariant_of-self-2 : goal.invariant_of-self-2
