@@ -41,7 +41,7 @@ const THREE: Ask = Ask::Transact(
 
 const LOCK: Option<(u64, u64)> = Some((1, 1));
 
-static RUNS: [(&str, &[Step]); 10] = [
+static RUNS: [(&str, &[Step]); 11] = [
     (
         "a lock on one, on all, and on those that are free",
         &[
@@ -101,7 +101,7 @@ static RUNS: [(&str, &[Step]); 10] = [
         ],
     ),
     (
-        "a renewed lock before its deadline and at it",
+        "a renewed lock right before its deadline",
         &[
             (1000, TWO, Want::Told(&[1, 2], &[], &[], 0)),
             (
@@ -114,6 +114,28 @@ static RUNS: [(&str, &[Step]); 10] = [
                 1109,
                 Ask::Transact(None, Release::Whole, &[Deed::Delete(Some(1))]),
                 Want::Row(18, "lockId"),
+            ),
+            (
+                1109,
+                Ask::Transact(LOCK, Release::Whole, &[Deed::Delete(Some(1))]),
+                Want::Told(&[], &[], &[], 1),
+            ),
+        ],
+    ),
+    (
+        "a renewed lock at its deadline",
+        &[
+            (1000, TWO, Want::Told(&[1, 2], &[], &[], 0)),
+            (
+                1000,
+                Ask::Lock(Some(1), Take::AllOrNone, 60),
+                Want::Locked(LOCK, &[1], &[]),
+            ),
+            (1050, Ask::Renew(1, 1), Want::Locked(LOCK, &[1], &[])),
+            (
+                1110,
+                Ask::Transact(LOCK, Release::Whole, &[Deed::Delete(Some(1))]),
+                Want::Row(16, "lockId"),
             ),
             (
                 1110,
