@@ -182,75 +182,126 @@ fn empty(alloc: Global) -> Mem<Pair<MemDisk>> {
     })
 }
 
-// What a run came to: its status, and the number of entries of its history.
-type End = (u8, Option<u64>);
+// What a run leaves: its status, how many entries its history has, and the disks.
+#[derive(Drop)]
+struct Left {
+    status: u8,
+    entries: Option<u64>,
+    disks: Option<Pair<MemDisk>>,
+}
 
-fn end_of(done: &Done<MemDisk>) -> End {
-    match &done.store {
-        Some(store) => (done.status, Some(store.entries())),
-        None => (done.status, None),
+fn left_by(done: Done<MemDisk>) -> Left {
+    let Done {
+        status,
+        store,
+        disks,
+    } = done;
+    match store {
+        Some(store) => Left {
+            status,
+            entries: Some(store.entries()),
+            disks: Some(store.close()),
+        },
+        None => Left {
+            status,
+            entries: None,
+            disks,
+        },
     }
 }
 
-fn run_at(
-    alloc: Global,
-    words: &[String],
-    schema: &mut MemSource,
-    input: &mut MemSource,
-    out: &mut MemSink,
-    disks: Pair<MemDisk>,
-) -> Mem<Done<MemDisk>> {
-    let mut clock = ListClock::new(vec![in alloc; 1000u64]?);
-    Ok(wfsd(alloc, words, schema, input, out, disks, &mut clock))
+// All that a run has but its disks.
+#[derive(Drop)]
+struct Ready {
+    words: Vec<String>,
+    schema: MemSource,
+    input: MemSource,
+    out: MemSink,
+    clock: ListClock,
 }
 
-fn run_by(
+// A run of which each message has its moment, whose input fails at the listed takes, and whose output has this room.
+fn make_ready_at(
+    alloc: Global,
+    clock: ListClock,
+    words: &[&str],
+    schema: &str,
+    input: &str,
+    failing: &[u64],
+    room: u64,
+) -> Mem<Ready> {
+    Ok(Ready {
+        words: words_of(alloc, words)?,
+        schema: source(alloc, schema, &[])?,
+        input: source(alloc, input, failing)?,
+        out: MemSink::new(alloc, room, Vec::new(alloc))?,
+        clock,
+    })
+}
+
+// One whose clock says 1,000.
+fn make_ready(
     alloc: Global,
     words: &[&str],
     schema: &str,
-    input: &mut MemSource,
-    out: &mut MemSink,
-    disks: Pair<MemDisk>,
-) -> Mem<Done<MemDisk>> {
-    let words = words_of(alloc, words)?;
-    let mut schema = source(alloc, schema, &[])?;
-    run_at(alloc, &words, &mut schema, input, out, disks)
+    input: &str,
+    failing: &[u64],
+    room: u64,
+) -> Mem<Ready> {
+    let clock = ListClock::new(vec![in alloc; 1000u64]?);
+    make_ready_at(alloc, clock, words, schema, input, failing, room)
 }
 
-// Runs the program over a schema and an input whose listed takes fail, in an empty folder.
+// Does a run on these disks: what it leaves, and its output.
+fn hold(alloc: Global, ready: Ready, disks: Pair<MemDisk>) -> (Left, MemSink) {
+    let Ready {
+        words,
+        mut schema,
+        mut input,
+        mut out,
+        mut clock,
+    } = ready;
+    let done = wfsd(
+        alloc,
+        &words,
+        &mut schema,
+        &mut input,
+        &mut out,
+        disks,
+        &mut clock,
+    );
+    (left_by(done), out)
+}
+
+// What a run came to: its status, and the number of entries of its history.
+type End = (u8, Option<u64>);
+
+fn end_of(left: &Left) -> End {
+    (left.status, left.entries)
+}
+
+// Does a run in an empty folder: its end, and its output.
+fn go_empty(alloc: Global, ready: Ready) -> Mem<(End, MemSink)> {
+    let disks = empty(alloc)?;
+    let (left, out) = hold(alloc, ready, disks);
+    Ok((end_of(&left), out))
+}
+
+// Does a run over a schema and an input whose listed takes fail, in an empty folder, with an output of so many bytes.
 fn run(
     alloc: Global,
     words: &[&str],
     schema: &str,
     input: &str,
     failing: &[u64],
-    out: &mut MemSink,
-) -> Mem<End> {
-    let mut input = source(alloc, input, failing)?;
-    let disks = empty(alloc)?;
-    let done = run_by(alloc, words, schema, &mut input, out, disks)?;
-    Ok(end_of(&done))
-}
-
-// Runs a session over an input in an empty folder, with this clock.
-fn run_during(alloc: Global, input: &str, clock: &mut ListClock, out: &mut MemSink) -> Mem<End> {
-    let words = words_of(alloc, &["talk", "d"])?;
-    let mut schema = source(alloc, SCHEMA, &[])?;
-    let mut input = source(alloc, input, &[])?;
-    let disks = empty(alloc)?;
-    let done = wfsd(alloc, &words, &mut schema, &mut input, out, disks, clock);
-    Ok(end_of(&done))
-}
-
-// An output with this room.
-fn sink(alloc: Global, room: u64) -> Mem<MemSink> {
-    MemSink::new(alloc, room, Vec::new(alloc))
+    room: u64,
+) -> Mem<(End, MemSink)> {
+    go_empty(alloc, make_ready(alloc, words, schema, input, failing, room)?)
 }
 
 // What a session over an input puts out.
 fn talk(alloc: Global, input: &str) -> Mem<MemSink> {
-    let mut out = sink(alloc, 20_000)?;
-    run(alloc, &["talk", "d"], SCHEMA, input, &[], &mut out)?;
+    let (_, out) = run(alloc, &["talk", "d"], SCHEMA, input, &[], 20_000)?;
     Ok(out)
 }
 

@@ -4,46 +4,81 @@
 //! `wfsd_commands`.
 #![tactic(auto)]
 
-use disk_core::{FileDisk, Pair};
+use disk_core::{Disk, FileDisk, Pair};
 use std::alloc::Global;
 use std::env;
 use std::process::ExitCode;
-use wfs_ends::{InputFile, Mem, ReadEnd, RealClock, StandardInput, StandardOutput, Text, WriteEnd};
+use wfs_ends::{
+    Clock, InputFile, Mem, ReadEnd, RealClock, Sink, Source, StandardInput, StandardOutput, Text,
+    WriteEnd,
+};
 use wfs_words::directory;
 use wfsd_commands::{OUT_OF_MEMORY, wfsd};
 
-/// Makes the real ends, and leaves the rest to `wfsd`. Words that are no text are refused as none.
+/// Makes the real ends, and leaves the rest to `wfsd`.
 fn main(rt: HostRuntime) -> ExitCode {
     let alloc = rt.alloc();
+    match words_given(&rt, alloc) {
+        Ok(words) => ExitCode::from(run(&rt, alloc, &words)),
+        Err(_) => ExitCode::from(OUT_OF_MEMORY),
+    }
+}
+
+// The words that follow the program's name. Words that are no text are as none.
+fn words_given(rt: &HostRuntime, alloc: Global) -> Mem<Vec<String>> {
     let mut words = Vec::new(alloc);
-    if let Ok(all) = env::args(&rt) {
+    if let Ok(all) = env::args(rt) {
         for word in all.skip(1) {
-            if words.push(word).is_err() {
-                return ExitCode::from(OUT_OF_MEMORY);
-            }
+            words.push(word)?;
         }
     }
-    let Ok(paths) = paths_in(alloc, directory(&words)) else {
-        return ExitCode::from(OUT_OF_MEMORY);
-    };
-    let mut schema = ReadEnd::of(InputFile::of(&rt, paths.schema));
-    let mut input = ReadEnd::of(StandardInput::of(&rt));
-    let mut out = WriteEnd::of(StandardOutput::of(&rt));
+    Ok(words)
+}
+
+// The status of what the words ask for.
+fn run(rt: &HostRuntime, alloc: Global, words: &[String]) -> u8 {
+    match paths_in(alloc, directory(words)) {
+        Ok(paths) => run_in(rt, alloc, words, paths),
+        Err(_) => OUT_OF_MEMORY,
+    }
+}
+
+// The same, in a folder.
+fn run_in(rt: &HostRuntime, alloc: Global, words: &[String], paths: Paths) -> u8 {
+    let Paths {
+        schema,
+        side_a,
+        side_b,
+    } = paths;
     let disks = Pair {
-        a: FileDisk::of(&rt, paths.side_a),
-        b: FileDisk::of(&rt, paths.side_b),
+        a: FileDisk::of(rt, side_a),
+        b: FileDisk::of(rt, side_b),
     };
-    let mut clock = RealClock::of(&rt);
-    let done = wfsd(
+    status_of(
         alloc,
-        &words,
-        &mut schema,
-        &mut input,
-        &mut out,
+        words,
+        &mut ReadEnd::of(InputFile::of(rt, schema)),
+        &mut ReadEnd::of(StandardInput::of(rt)),
+        &mut WriteEnd::of(StandardOutput::of(rt)),
         disks,
-        &mut clock,
-    );
-    ExitCode::from(done.status)
+        &mut RealClock::of(rt),
+    )
+}
+
+// The same, over its ends. What is left of the store goes here.
+fn status_of<Q: Source, I: Source, O: Sink, D: Disk + Drop, C: Clock>(
+    alloc: Global,
+    words: &[String],
+    schema: &mut Q,
+    input: &mut I,
+    out: &mut O,
+    disks: Pair<D>,
+    clock: &mut C,
+) -> u8 {
+    let done = wfsd(alloc, words, schema, input, out, disks, clock);
+    let status = done.status;
+    drop(done);
+    status
 }
 
 // The files of a folder.

@@ -15,44 +15,43 @@ type Run = (
 
 const TALK: &[&str] = &["talk", "d"];
 
-// The disks that a run leaves.
-fn disks_of(done: Done<MemDisk>) -> Option<Pair<MemDisk>> {
-    match (done.store, done.disks) {
-        (Some(store), _) => Some(store.close()),
-        (None, disks) => disks,
-    }
-}
-
 fn output_of(alloc: Global, answers: &[Answer], line: &str) -> Mem<String> {
     let mut output = answers_of(alloc, answers)?;
     output.push_str(line)?;
     Ok(output)
 }
 
-// Does a run on these files. None where it comes to something else.
-fn go(alloc: Global, run: &Run, disks: Pair<MemDisk>) -> Mem<Option<Pair<MemDisk>>> {
-    let (words, messages, status, answers, line) = *run;
-    let input = messages_of(alloc, messages)?;
-    let mut input = source(alloc, input.as_str(), &[])?;
-    let mut out = sink(alloc, 20_000)?;
-    let done = run_by(alloc, words, SCHEMA, &mut input, &mut out, disks)?;
-    let output = output_of(alloc, answers, line)?;
-    if done.status == status && out.bytes() == output.as_bytes() {
-        return Ok(disks_of(done));
-    }
-    Ok(None)
+fn ready_for(alloc: Global, run: &Run) -> Mem<Ready> {
+    let input = messages_of(alloc, run.1)?;
+    make_ready(alloc, run.0, SCHEMA, input.as_str(), &[], 20_000)
 }
 
-// Does runs on these files, one after the other, and answers the files; or the number of the first that comes to something else.
-fn go_all(alloc: Global, runs: &[Run], disks: Pair<MemDisk>) -> Mem<Result<Pair<MemDisk>, usize>> {
-    let mut disks = disks;
-    for i in 0..runs.len() {
-        match go(alloc, &runs[i], disks)? {
-            Some(left) => disks = left,
-            None => return Ok(Err(i)),
-        }
+// The disks that are left, where a run came to a status and an output.
+fn disks_if(held: (Left, MemSink), status: u8, output: &[u8]) -> Option<Pair<MemDisk>> {
+    let (left, out) = held;
+    if left.status == status && out.bytes() == output {
+        return left.disks;
     }
-    Ok(Ok(disks))
+    None
+}
+
+// Does a run on the files that are left so far. None where it comes to something else.
+fn go(alloc: Global, run: &Run, disks: Option<Pair<MemDisk>>) -> Mem<Option<Pair<MemDisk>>> {
+    let output = output_of(alloc, run.3, run.4)?;
+    let ready = ready_for(alloc, run)?;
+    Ok(match disks {
+        Some(disks) => disks_if(hold(alloc, ready, disks), run.2, output.as_bytes()),
+        None => None,
+    })
+}
+
+// Does runs in an empty folder, one after the other, and answers the files. None where one of them comes to something else.
+fn go_all(alloc: Global, runs: &[Run]) -> Mem<Option<Pair<MemDisk>>> {
+    let mut disks = Some(empty(alloc)?);
+    for run in runs {
+        disks = go(alloc, run, disks)?;
+    }
+    Ok(disks)
 }
 
 fn reads(disk: &mut MemDisk, want: &[u8]) -> bool {
@@ -69,9 +68,9 @@ fn has_length(disk: &mut MemDisk, length: u64) -> bool {
 
 // Whether runs in an empty folder come to what they say, and leave files of these lengths.
 fn come_to(alloc: Global, runs: &[Run], a: u64, b: u64) -> Mem<bool> {
-    match go_all(alloc, runs, empty(alloc)?)? {
-        Ok(mut disks) => Ok(has_length(&mut disks.a, a) && has_length(&mut disks.b, b)),
-        Err(_) => Ok(false),
+    match go_all(alloc, runs)? {
+        Some(mut disks) => Ok(has_length(&mut disks.a, a) && has_length(&mut disks.b, b)),
+        None => Ok(false),
     }
 }
 
@@ -139,10 +138,10 @@ const CHECKPOINT: &[u8] =
 
 // Whether runs in an empty folder leave these bytes on one side.
 fn leaves(alloc: Global, runs: &[Run], second: bool, want: &[u8]) -> Mem<bool> {
-    match go_all(alloc, runs, empty(alloc)?)? {
-        Ok(mut disks) if second => Ok(reads(&mut disks.b, want)),
-        Ok(mut disks) => Ok(reads(&mut disks.a, want)),
-        Err(_) => Ok(false),
+    match go_all(alloc, runs)? {
+        Some(mut disks) if second => Ok(reads(&mut disks.b, want)),
+        Some(mut disks) => Ok(reads(&mut disks.a, want)),
+        None => Ok(false),
     }
 }
 
@@ -368,7 +367,7 @@ static OF_FOUR: [Run; 2] = [
 ];
 
 fn go_on(alloc: Global, runs: &[Run]) -> Mem<bool> {
-    Ok(go_all(alloc, runs, empty(alloc)?)?.is_ok())
+    Ok(go_all(alloc, runs)?.is_some())
 }
 
 #[test]
@@ -406,21 +405,21 @@ static REFUSED: [(&[&str], u8, &str); 12] = [
 // Seventeen bytes that are no journal's from byte 1 on.
 const FOREIGN: &[u8] = b"\x01XFSJNL\x01\0\0\0\0\0\0\0\x01\0";
 
-// Whether these words, over a foreign file, come to this status and line, and the file stays.
-fn is_refused(alloc: Global, row: &(&[&str], u8, &str)) -> Mem<bool> {
-    let (words, status, line) = *row;
-    let disks = Pair {
-        a: disk_with(alloc, FOREIGN, &[], None)?,
-        b: disk_with(alloc, b"", &[], None)?,
-    };
-    let mut input = source(alloc, "", &[])?;
-    let mut out = sink(alloc, 1_000)?;
-    let done = run_by(alloc, words, SCHEMA, &mut input, &mut out, disks)?;
-    let is_so = end_of(&done) == (status, None) && out.bytes() == line.as_bytes();
-    match disks_of(done) {
-        Some(mut disks) => Ok(is_so && reads(&mut disks.a, FOREIGN)),
-        None => Ok(false),
+// Whether a run over a foreign file came to this status and line, and the file stays.
+fn is_refusal(held: (Left, MemSink), status: u8, line: &str) -> bool {
+    let (left, out) = held;
+    let is_so = end_of(&left) == (status, None) && out.bytes() == line.as_bytes();
+    match left.disks {
+        Some(mut disks) => is_so && reads(&mut disks.a, FOREIGN),
+        None => false,
     }
+}
+
+fn is_refused(alloc: Global, row: &(&[&str], u8, &str)) -> Mem<bool> {
+    let ready = make_ready(alloc, row.0, SCHEMA, "", &[], 1_000)?;
+    let a = disk_with(alloc, FOREIGN, &[], None)?;
+    let b = disk_with(alloc, b"", &[], None)?;
+    Ok(is_refusal(hold(alloc, ready, Pair { a, b }), row.1, row.2))
 }
 
 // The first row of `REFUSED` of which something else comes.
@@ -443,17 +442,19 @@ fn words_come_before_the_journal(rt: HostRuntime) -> Result<(), Fail> {
 const OTHER_SCHEMA: &str =
     "title = \"Marks\"\naddress = \"http://localhost:8080/wfs\"\nnamespace = \"http://example.org/marks\"\nprefix = \"m\"\nsrs = [\"EPSG:25832\"]\n[[type]]\nname = \"Mark\"\nproperty = [ {name=\"label\", kind=\"text\"} ]\n";
 
+// Whether a run came to this status and line, and held no session.
+fn says(held: (Left, MemSink), status: u8, line: &str) -> bool {
+    let (left, out) = held;
+    end_of(&left) == (status, None) && out.bytes() == line.as_bytes()
+}
+
 // Whether a run on the files of two marks with this schema comes to a status and a line.
 fn says_of_two(alloc: Global, schema: &str, status: u8, line: &str) -> Mem<bool> {
-    match go(alloc, &TWO, empty(alloc)?)? {
-        Some(disks) => {
-            let mut input = source(alloc, "", &[])?;
-            let mut out = sink(alloc, 1_000)?;
-            let done = run_by(alloc, TALK, schema, &mut input, &mut out, disks)?;
-            Ok(end_of(&done) == (status, None) && out.bytes() == line.as_bytes())
-        }
-        None => Ok(false),
-    }
+    let ready = make_ready(alloc, TALK, schema, "", &[], 1_000)?;
+    Ok(match go_all(alloc, &[TWO])? {
+        Some(disks) => says(hold(alloc, ready, disks), status, line),
+        None => false,
+    })
 }
 
 #[test]
@@ -472,17 +473,8 @@ fn a_journal_of_another_schema_is_refused(rt: HostRuntime) -> Result<(), Fail> {
 
 // Whether a command with so little room for its line ends with status 7 behind a front of it.
 fn is_cut_off(alloc: Global, command: &str, front: &str) -> Mem<bool> {
-    let mut input = source(alloc, "", &[])?;
-    let mut out = sink(alloc, 3)?;
-    let done = run_by(
-        alloc,
-        &[command, "d"],
-        SCHEMA,
-        &mut input,
-        &mut out,
-        empty(alloc)?,
-    )?;
-    Ok(done.status == 7 && out.bytes() == front.as_bytes())
+    let (end, out) = run(alloc, &[command, "d"], SCHEMA, "", &[], 3)?;
+    Ok(end.0 == 7 && out.bytes() == front.as_bytes())
 }
 
 #[test]

@@ -225,9 +225,10 @@ fn add_all_outputs(text: &mut String) -> Mem<()> {
 
 // Whether a session over this input, each message at its moment, comes to this output.
 fn comes_to(alloc: Global, input: &str, output: &str) -> Mem<bool> {
-    let mut out = sink(alloc, 40_000)?;
-    let mut clock = ListClock::new(Vec::from_slice(alloc, &MOMENTS)?);
-    let end = run_during(alloc, input, &mut clock, &mut out)?;
+    let clock = ListClock::new(Vec::from_slice(alloc, &MOMENTS)?);
+    let words = &["talk", "d"];
+    let ready = make_ready_at(alloc, clock, words, SCHEMA, input, &[], 40_000)?;
+    let (end, out) = go_empty(alloc, ready)?;
     Ok(end.0 == 0 && out.bytes() == output.as_bytes())
 }
 

@@ -11,8 +11,7 @@ fn comes_to(
     end: End,
     output: &str,
 ) -> Mem<bool> {
-    let mut out = sink(alloc, room)?;
-    let found = run(alloc, &["talk", "d"], SCHEMA, input, failing, &mut out)?;
+    let (found, out) = run(alloc, &["talk", "d"], SCHEMA, input, failing, room)?;
     Ok(found == end && out.bytes() == output.as_bytes())
 }
 
@@ -297,15 +296,8 @@ static LINES: [(&[&str], &str, u8, &str); 4] = [
 
 // Whether a run over this schema and an input comes to a status and an output, and holds no session.
 fn says(alloc: Global, words: &[&str], schema: &str, status: u8, line: &str) -> Mem<bool> {
-    let mut out = sink(alloc, 1_000)?;
-    let end = run(
-        alloc,
-        words,
-        schema,
-        "GET / HTTP/1.1\r\n\r\n",
-        &[],
-        &mut out,
-    )?;
+    let input = "GET / HTTP/1.1\r\n\r\n";
+    let (end, out) = run(alloc, words, schema, input, &[], 1_000)?;
     Ok(end == (status, None) && out.bytes() == line.as_bytes())
 }
 

@@ -12,25 +12,10 @@ fn failing(alloc: Global, failing: &[u64], stop: Option<u64>) -> Mem<Pair<MemDis
     })
 }
 
-fn disks_of(done: Done<MemDisk>) -> Option<Pair<MemDisk>> {
-    match (done.store, done.disks) {
-        (Some(store), _) => Some(store.close()),
-        (None, disks) => disks,
-    }
-}
-
-// A run over these messages: what it came to, and its output.
-fn hold(
-    alloc: Global,
-    words: &[&str],
-    messages: &[Message],
-    disks: Pair<MemDisk>,
-) -> Mem<(Done<MemDisk>, MemSink)> {
+// A run of these words over these messages.
+fn ready_for(alloc: Global, words: &[&str], messages: &[Message]) -> Mem<Ready> {
     let input = messages_of(alloc, messages)?;
-    let mut input = source(alloc, input.as_str(), &[])?;
-    let mut out = sink(alloc, 20_000)?;
-    let done = run_by(alloc, words, SCHEMA, &mut input, &mut out, disks)?;
-    Ok((done, out))
+    make_ready(alloc, words, SCHEMA, input.as_str(), &[], 20_000)
 }
 
 const ONE_MARK: Message = ("", "<m:Mark><m:label>A</m:label></m:Mark>");
@@ -67,16 +52,22 @@ static NO_HITS: Answer = (
 
 static ONE_INSERTED: Answer = ("200 OK", "text/xml", "", &[ONE]);
 
+// Whether a session answers the first Insert by a store fault, and then as is wanted.
+fn repairs(held: (Left, MemSink), wanted: &[u8]) -> Option<bool> {
+    let (left, out) = held;
+    if left.status == 0 && text_of(&out).starts_with("HTTP/1.1 500") {
+        return Some(out.bytes() == wanted);
+    }
+    None
+}
+
 // Whether a session in which this call of side a's disk fails answers the first Insert by a store fault; then nothing is there,
 // and the same Insert has the first number.
 fn is_repaired(alloc: Global, call: u64) -> Mem<Option<bool>> {
-    let disks = failing(alloc, &[call], None)?;
-    let (done, out) = hold(alloc, &["talk", "d"], &[ONE_MARK, HITS, ONE_MARK], disks)?;
     let wanted = answers_of(alloc, &[FAULT, NO_HITS, ONE_INSERTED])?;
-    if done.status == 0 && text_of(&out).starts_with("HTTP/1.1 500") {
-        return Ok(Some(out.bytes() == wanted.as_bytes()));
-    }
-    Ok(None)
+    let ready = ready_for(alloc, &["talk", "d"], &[ONE_MARK, HITS, ONE_MARK])?;
+    let disks = failing(alloc, &[call], None)?;
+    Ok(repairs(hold(alloc, ready, disks), wanted.as_bytes()))
 }
 
 // How many of the calls make the first Insert a store fault, and whether each is repaired.
@@ -99,36 +90,57 @@ fn a_store_fault_leaves_nothing(rt: HostRuntime) -> Result<(), Fail> {
     Ok(())
 }
 
+// The disks after a crash that keeps so many of the writes in flight.
+fn crashed(left: Left, keep: u32) -> Option<Pair<MemDisk>> {
+    match left.disks {
+        Some(Pair { a, b }) => Some(Pair {
+            a: a.crash(keep),
+            b: b.crash(keep),
+        }),
+        None => None,
+    }
+}
+
+// The output of a run on these disks.
+fn output_on(alloc: Global, ready: Ready, disks: Option<Pair<MemDisk>>) -> Option<MemSink> {
+    match disks {
+        Some(disks) => {
+            let (_, out) = hold(alloc, ready, disks);
+            Some(out)
+        }
+        None => None,
+    }
+}
+
 // What the next run finds when side a's disk stopped at a call: whether the Insert was answered, and the line of a check.
-fn next_run(alloc: Global, stop: u64, keep: u32) -> Mem<Option<(bool, MemSink)>> {
+fn next_run(alloc: Global, stop: u64, keep: u32) -> Mem<(bool, Option<MemSink>)> {
+    let insert = ready_for(alloc, &["talk", "d"], &[ONE_MARK])?;
+    let check = ready_for(alloc, &["check", "d"], &[])?;
     let disks = failing(alloc, &[], Some(stop))?;
-    let (done, out) = hold(alloc, &["talk", "d"], &[ONE_MARK], disks)?;
+    let (left, out) = hold(alloc, insert, disks);
     let is_answered = text_of(&out).starts_with("HTTP/1.1 200");
-    let Some(Pair { a, b }) = disks_of(done) else {
-        return Ok(None);
-    };
-    let left = Pair {
-        a: a.crash(keep),
-        b: b.crash(keep),
-    };
-    let (_, line) = hold(alloc, &["check", "d"], &[], left)?;
-    Ok(Some((is_answered, line)))
+    Ok((is_answered, output_on(alloc, check, crashed(left, keep))))
+}
+
+// Whether what was answered is there, and no more than was asked.
+fn is_kept(is_answered: bool, line: &str) -> bool {
+    line == "types 3 features 1 queries 0 openings 1\n"
+        || !is_answered
+            && (line.starts_with("types 3 features 0 ") || line.starts_with("types 3 features 1 "))
+}
+
+fn is_kept_after(alloc: Global, stop: u64, keep: u32) -> Mem<bool> {
+    let (is_answered, line) = next_run(alloc, stop, keep)?;
+    Ok(match line {
+        Some(line) => is_kept(is_answered, text_of(&line)),
+        None => false,
+    })
 }
 
 // The first stop after which an answered Insert is not there, or more is there than was asked.
 fn first_lost(alloc: Global, keep: u32) -> Mem<Option<u64>> {
     for stop in 0..60 {
-        let is_kept = match next_run(alloc, stop, keep)? {
-            Some((true, line)) => {
-                line.bytes() == b"types 3 features 1 queries 0 openings 1\n".as_slice()
-            }
-            Some((false, line)) => {
-                let line = text_of(&line);
-                line.starts_with("types 3 features 0 ") || line.starts_with("types 3 features 1 ")
-            }
-            None => false,
-        };
-        if !is_kept {
+        if !is_kept_after(alloc, stop, keep)? {
             return Ok(Some(stop));
         }
     }
@@ -146,29 +158,6 @@ fn stop_where(is_here: bool, stop: u64) -> Option<u64> {
     if is_here { Some(stop) } else { None }
 }
 
-// The line of a check behind a compact that stopped at a call of one side's disk.
-fn check_behind_a_stop(alloc: Global, second: bool, stop: u64) -> Mem<Option<MemSink>> {
-    let (done, _) = hold(alloc, &["talk", "d"], &[ONE_MARK], empty(alloc)?)?;
-    let Some(Pair { a, b }) = disks_of(done) else {
-        return Ok(None);
-    };
-    let (a, b) = (bytes_of(alloc, a)?, bytes_of(alloc, b)?);
-    let disks = Pair {
-        a: disk_with(alloc, &a, &[], stop_where(!second, stop))?,
-        b: disk_with(alloc, &b, &[], stop_where(second, stop))?,
-    };
-    let (done, _) = hold(alloc, &["compact", "d"], &[], disks)?;
-    let Some(Pair { a, b }) = disks_of(done) else {
-        return Ok(None);
-    };
-    let left = Pair {
-        a: a.crash(0),
-        b: b.crash(0),
-    };
-    let (_, line) = hold(alloc, &["check", "d"], &[], left)?;
-    Ok(Some(line))
-}
-
 // What a file holds.
 fn bytes_of(alloc: Global, disk: MemDisk) -> Mem<Vec<u8>> {
     let mut disk = disk;
@@ -177,6 +166,45 @@ fn bytes_of(alloc: Global, disk: MemDisk) -> Mem<Vec<u8>> {
         Ok(n) if n <= 400 => Ok(Vec::from_slice(alloc, &into[..n])?),
         _ => Ok(Vec::new(alloc)),
     }
+}
+
+// What two files hold.
+type Files = (Vec<u8>, Vec<u8>);
+
+fn files_of(alloc: Global, disks: Option<Pair<MemDisk>>) -> Mem<Files> {
+    match disks {
+        Some(Pair { a, b }) => {
+            let a = bytes_of(alloc, a)?;
+            Ok((a, bytes_of(alloc, b)?))
+        }
+        None => Ok((Vec::new(alloc), Vec::new(alloc))),
+    }
+}
+
+// The files that a session leaves which inserts one mark.
+fn with_one_mark(alloc: Global) -> Mem<Files> {
+    let insert = ready_for(alloc, &["talk", "d"], &[ONE_MARK])?;
+    let disks = empty(alloc)?;
+    let (left, _) = hold(alloc, insert, disks);
+    files_of(alloc, left.disks)
+}
+
+// Disks that hold these files, of which one stops at a call.
+fn stopping(alloc: Global, files: &Files, second: bool, stop: u64) -> Mem<Pair<MemDisk>> {
+    Ok(Pair {
+        a: disk_with(alloc, &files.0, &[], stop_where(!second, stop))?,
+        b: disk_with(alloc, &files.1, &[], stop_where(second, stop))?,
+    })
+}
+
+// The line of a check behind a compact that stopped at a call of one side's disk.
+fn check_behind_a_stop(alloc: Global, second: bool, stop: u64) -> Mem<Option<MemSink>> {
+    let compact = ready_for(alloc, &["compact", "d"], &[])?;
+    let check = ready_for(alloc, &["check", "d"], &[])?;
+    let files = with_one_mark(alloc)?;
+    let disks = stopping(alloc, &files, second, stop)?;
+    let (left, _) = hold(alloc, compact, disks);
+    Ok(output_on(alloc, check, crashed(left, 0)))
 }
 
 // The first stop of a compact behind which the mark is not there.
@@ -203,9 +231,10 @@ fn a_stop_of_a_compact_loses_nothing(rt: HostRuntime) -> Result<(), Fail> {
 
 // Whether a first call that fails ends each command with status 5 and its line.
 fn fails(alloc: Global, command: &str) -> Mem<bool> {
+    let ready = ready_for(alloc, &[command, "d"], &[])?;
     let disks = failing(alloc, &[0], None)?;
-    let (done, out) = hold(alloc, &[command, "d"], &[], disks)?;
-    Ok(end_of(&done) == (5, None) && text_of(&out) == "wfsd: store fault\n")
+    let (left, out) = hold(alloc, ready, disks);
+    Ok(end_of(&left) == (5, None) && text_of(&out) == "wfsd: store fault\n")
 }
 
 #[test]
