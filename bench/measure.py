@@ -33,7 +33,7 @@ def message(body: bytes) -> bytes:
 
 def built() -> None:
     """Builds the program, so that no run measures that."""
-    subprocess.run([PROGRAM, "talk", DEMO], stdin=subprocess.DEVNULL, check=True)
+    subprocess.run([PROGRAM, "check", DEMO], stdout=subprocess.DEVNULL, check=True)
 
 
 def time_once(command: list, source, status: int) -> float:
@@ -83,9 +83,14 @@ def driver(name: str, crates: list):
         shutil.rmtree(folder, ignore_errors=True)
 
 
-def session() -> list:
-    """The command that holds a session by the schema of the demonstration."""
-    return [os.path.join(ROOT, "crates", "wfsd", "out", "wfsd"), "talk", DEMO]
+# The folders of the sessions, one for each run, since a run leaves a journal.
+FOLDERS = tempfile.TemporaryDirectory()
+FRESH = 'mkdir "$1/$$" && cp "$2/schema.toml" "$1/$$" && exec "$0" talk "$1/$$"'
+
+
+def session(folder: str = DEMO) -> list:
+    """The command that holds a session in a fresh folder, by the schema of this one or of the demonstration."""
+    return ["sh", "-c", FRESH, os.path.join(ROOT, "crates", "wfsd", "out", "wfsd"), FOLDERS.name, folder]
 
 
 def wfsd_time(body: bytes, status: int) -> float:

@@ -1,4 +1,0 @@
-pub mod Filling
-pub mod Loads
-pub mod Talks
-pub mod Two

@@ -1,0 +1,11 @@
+pub mod Asked
+pub mod Becomes
+pub mod Drills
+pub mod Early
+pub mod Filling
+pub mod Leaving
+pub mod Loads
+pub mod Restarts
+pub mod Said
+pub mod Starts
+pub mod Talks

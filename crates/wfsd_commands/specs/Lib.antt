@@ -1,0 +1,14 @@
+pub mod Asking
+pub mod Becoming
+pub mod Commands
+pub mod Drilled
+pub mod Drilling
+pub mod Early
+pub mod Left
+pub mod Loading
+pub mod Restarted
+pub mod Runs
+pub mod Source
+pub mod Starting
+pub mod Statuses
+pub mod Talk
