@@ -296,7 +296,10 @@ fn run(
     failing: &[u64],
     room: u64,
 ) -> Mem<(End, MemSink)> {
-    go_empty(alloc, make_ready(alloc, words, schema, input, failing, room)?)
+    go_empty(
+        alloc,
+        make_ready(alloc, words, schema, input, failing, room)?,
+    )
 }
 
 // What a session over an input puts out.
