@@ -83,6 +83,9 @@ def driver(name: str, crates: list):
         shutil.rmtree(folder, ignore_errors=True)
 
 
+# The program as it was built.
+BUILT = os.path.join(ROOT, "crates", "wfsd", "out", "wfsd")
+
 # The folders of the sessions, one for each run, since a run leaves a journal.
 FOLDERS = tempfile.TemporaryDirectory()
 FRESH = 'mkdir "$1/$$" && cp "$2/schema.toml" "$1/$$" && exec "$0" talk "$1/$$"'
@@ -90,7 +93,7 @@ FRESH = 'mkdir "$1/$$" && cp "$2/schema.toml" "$1/$$" && exec "$0" talk "$1/$$"'
 
 def session(folder: str = DEMO) -> list:
     """The command that holds a session in a fresh folder, by the schema of this one or of the demonstration."""
-    return ["sh", "-c", FRESH, os.path.join(ROOT, "crates", "wfsd", "out", "wfsd"), FOLDERS.name, folder]
+    return ["sh", "-c", FRESH, BUILT, FOLDERS.name, folder]
 
 
 def wfsd_time(body: bytes, status: int) -> float:
@@ -112,11 +115,16 @@ def can_count() -> bool:
 def instructions(body: bytes) -> int:
     """How many instructions the program takes for this body and its start."""
     with tempfile.TemporaryDirectory() as folder:
-        counts = os.path.join(folder, "counts")
-        command = ["valgrind", "--tool=callgrind", "--callgrind-out-file=" + counts] + session()
+        counts = os.path.join(folder, "%p")
+        command = ["valgrind", "--tool=callgrind", "--trace-children=yes", "--callgrind-out-file=" + counts] + session()
         subprocess.run(command, input=message(body), stdout=subprocess.DEVNULL, stderr=subprocess.DEVNULL, check=True)
-        with open(counts, encoding="ascii") as lines:
-            return next(int(line.split()[1]) for line in lines if line.startswith("totals:"))
+        for name in os.listdir(folder):
+            # (the shell that makes the folder, and what it calls, are counted beside it)
+            with open(os.path.join(folder, name), encoding="ascii") as file:
+                lines = file.readlines()
+            if any(line.split()[:2] == ["cmd:", BUILT] for line in lines):
+                return next(int(line.split()[1]) for line in lines if line.startswith("totals:"))
+    raise AssertionError("the program was not counted")
 
 
 def verdict(what: str, ratio: float, most: float) -> bool:
