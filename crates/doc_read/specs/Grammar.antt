@@ -1,4 +1,5 @@
--- What spells a tree: documents by their parts, with no word on how they are read
+-- What spells a tree: documents by their parts, apart from the reading function. Both share the classes of characters, what names and declarations mean,
+-- which character a reference names, and line ends
 -- (XML 1.0 and Namespaces in XML 1.0, in this project's profile).
 use Rattle.std.specs.Prelude.{◌≡◌, ℕ, suc, pred, ◌+◌, ◌≤◌, ◌<◌, Bool, true, false, ◌⊎◌, length, List, [], ◌∷◌, ◌++◌, map, Ok, encode_utf8, encode_utf8_all, codes}
 use Rattle.std.specs.List.{list_all}

@@ -45,6 +45,6 @@ do_cross s t =
 unfoldable pub do_touch : Segment → Segment → Bool
 do_touch s t = (is_on s.from t || is_on s.to t) || (is_on t.from s || is_on t.to s)
 
--- Segments meet, that is share a point, where an end of one lies on the other, or where they cross.
+-- Segments meet where an end of one lies on the other, or where they cross. That they then share a point is told by no law.
 unfoldable pub do_meet : Segment → Segment → Bool
 do_meet s t = do_touch s t || do_cross s t
