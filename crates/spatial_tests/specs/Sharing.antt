@@ -1,4 +1,4 @@
--- When geometries share a point (OGC 09-026r2, section 7.8: Intersects, Disjoint and BBOX).
+-- When geometries intersect (OGC 09-026r2, section 7.8: Intersects, Disjoint and BBOX).
 use Rattle.std.specs.Prelude.{Bool, false, ◌&&◌, ◌||◌, int_le, List, [], ◌∷◌, ◌++◌, flat_map}
 use Rattle.std.specs.List.{list_any}
 use Rattle.geom_core.specs.Plane.{Point, Bounds, Area}
