@@ -1,0 +1,5 @@
+mod Fitting
+mod FreshSeats
+mod Leaving
+mod Lists
+mod Stacks

@@ -1,0 +1,24 @@
+use Rattle.std.proofs.Common.{◌≡◌, ◌≤◌, ◌+◌, ◌++◌, List, All, IsSome, map, length, reverse, vec_len, vec_capacity}
+use Rattle.std.specs.List.{AllZip}
+use Rattle.atomic_table.specs.Seated.{TableId}
+use Rattle.service_workers.specs.declared.worker.Worker.{Worker}
+use Rattle.store_service.specs.Seating.{HasLeft}
+use Rattle.store_turns.specs.Seats.{Seated}
+use Rattle.turnstile_core.specs.Seats.{past, IsFreeAt}
+use Rattle.store_service.proofs.seating.stand_up.Given as goal
+
+abbrev pub invariant-loop-worker : goal.invariant-loop-worker
+invariant-loop-worker g l = (done : List (Worker (Seated g.row.D.Denot) g.row.A.Denot g.row.C.Denot g.row.G.Denot)) × record {
+  parts : l.fn.workers.items ≡ done ++ reverse l.sitting.items;
+  left : AllZip HasLeft done l.ended.items;
+  seats : map past l.seats.items ≡ map (λ worker. worker.service.past) done;
+  own : (name : TableId) → All (λ (worker : Worker (Seated g.row.D.Denot) g.row.A.Denot g.row.C.Denot g.row.G.Denot). worker.service.name ≡ name) done → All (IsFreeAt name) l.seats.items;
+  ended : All (λ (worker : Worker (Seated g.row.D.Denot) g.row.A.Denot g.row.C.Denot g.row.G.Denot). IsSome worker.end) l.sitting.items;
+  seats_many : length l.seats.items + length l.sitting.items ≡ length l.fn.workers.items;
+  ended_many : length l.ended.items + length l.sitting.items ≡ length l.fn.workers.items;
+  seats_room : length l.fn.workers.items ≤ vec_capacity l.seats;
+  ended_room : length l.fn.workers.items ≤ vec_capacity l.ended;
+}
+
+abbrev pub decreases-loop-worker : goal.decreases-loop-worker
+decreases-loop-worker g l = vec_len l.sitting

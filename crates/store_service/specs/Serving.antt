@@ -1,0 +1,71 @@
+-- All workers of a store together: they fit one history.
+use Rattle.std.specs.Prelude.{◌≡◌, ℕ, ◌≤◌, List, [], ◌∷◌, length, slice_get, Option, Some, ⊤}
+use mathlib.Core.List.{IsPrefix}
+use Rattle.atomic_table.specs.Seated.{TableId}
+use Rattle.feature_values.specs.declared.schema.Schema.{Schema}
+use Rattle.service_doors.specs.Accepting.{Accepting}
+use Rattle.service_workers.specs.Working.{IsWorked, stand}
+use Rattle.store_service.specs.declared.slot.Ended.{Ended}
+use Rattle.store_service.specs.declared.slot.Served.{Served}
+use Rattle.store_service.specs.declared.slot.Served.TheVariants as outcome
+use Rattle.store_service.specs.declared.slot.Slot.{Slot}
+use Rattle.store_service.specs.Giving.{fresh_seat}
+use Rattle.store_turns.specs.declared.counter.Counter.{Counter}
+use Rattle.store_turns.specs.Knowing.{Known}
+use Rattle.store_turns.specs.Openings.{HasLegalHistory, StaysOpen, tally_of}
+use Rattle.store_turns.specs.Seats.{Seated, desk_meaning}
+use Rattle.store_turns.specs.Turns.{seat_of}
+use Rattle.turnstile_core.specs.Places.{places_of}
+use Rattle.wfs_store.specs.Held.{Held}
+
+module _ {D : Type 0} where
+  -- a store as a turnstile keeps it
+  abbrev pub counter_of : Held D → Counter D
+  counter_of held = record { store = held }
+
+  -- a desk at the turnstile of this name, which serves this schema, and whose seat knows this
+  abbrev pub desk_at : TableId → Schema → Known D → Seated D
+  desk_at name schema known = record { name = name; schema = schema; past = known }
+
+-- ---- one worker, and all
+
+module _ {A C G D : Type 0} (accepting : A → Accepting) (moments : C → Option (List ℕ)) (limit : Option ℕ) where
+  -- A worker at the turnstile of this name did its work from its slot on, one session after the other: its seat knew `old` before the first
+  -- session, and `new` behind the last one.
+  abbrev pub Works : TableId → Schema → Slot A C G → Known D → Ended A C G → Known D → Type 0
+  Works name schema slot old ended new = IsWorked desk_meaning limit (stand (desk_at name schema old) (moments slot.clock)) (accepting slot.acceptor)
+      ended.end (stand (desk_at name schema new) (moments ended.slot.clock)) (accepting ended.slot.acceptor)
+
+  -- The worker of a slot fits the history of a store: its sessions, one after the other, began with a fresh seat of its number, and what the seat
+  -- knows behind them is of that history. What it has seen is a beginning of the history. The entries of its number stand at just the places
+  -- at which it entered one. The store's tally has for its number just the store faults that it answered.
+  pub record WorkerFits (name : TableId) (first store : Held D) (many number : ℕ) (slot : Slot A C G) (ended : Ended A C G) : Type 0 where
+    pub knows : Known D
+    pub worked : Works name first.schema slot (fresh_seat (counter_of first ∷ []) many number) ended knows
+    pub begins : IsPrefix knows.seen store.entries
+    pub places : places_of seat_of number store.entries ≡ knows.places
+    pub tally : tally_of store number ≡ knows.tally
+
+  -- A run, which began with the store `first` and left another: the history is legal, and the opening is the same. The worker of each slot, counted
+  -- from 0, fits that history with the slot's number. No other number has an entry or a store fault.
+  pub record RunFits (faults : D → ℕ) (first : Held D) (slots : List (Slot A C G)) (store : Held D) (ended : List (Ended A C G)) : Type 0 where
+    pub name : TableId
+    pub legal : HasLegalHistory store
+    pub opening : StaysOpen faults first store
+    pub as_many : length ended ≡ length slots
+    pub each : (number : ℕ) (slot : Slot A C G) (end : Ended A C G) → slice_get slots number ≡ Some slot → slice_get ended number ≡ Some end
+        → WorkerFits name first store (length slots) number slot end
+    pub others : (number : ℕ) → length slots ≤ number → (places_of seat_of number store.entries ≡ []) × (tally_of store number ≡ 0)
+
+-- ---- what is handed back
+
+module _ {A C G D : Type 0} where
+  -- where the service ran, of the store and the workers that come back
+  abbrev pub IfRan : Served A C G D → (Held D → List (Ended A C G) → Type 0) → Type 0
+  IfRan (outcome.Ran store workers) P = P store workers.items
+  IfRan (outcome.NoMemory store slots) P = ⊤
+
+  -- where there was no memory, of the store and the slots that come back
+  abbrev pub IfNoMemory : Served A C G D → (Held D → List (Slot A C G) → Type 0) → Type 0
+  IfNoMemory (outcome.Ran store workers) P = ⊤
+  IfNoMemory (outcome.NoMemory store slots) P = P store slots.items
