@@ -1,5 +1,5 @@
 -- A checkpoint becomes the list of a journal.
-use Rattle.std.proofs.Common.{◌≡◌, ◌⊎◌, inl, inr, ⊎_elim, ℕ, ◌≤◌, ◌==◌, false, List, [], ◌∷◌, length, Option, Some, None, arith}
+use Rattle.std.proofs.Common.{◌≡◌, ◌⊎◌, inl, inr, ⊎_elim, ℕ, ◌≤◌, ◌==◌, false, List, [], ◌∷◌, length, Option, Some, None, refl, arith}
 use Rattle.std.specs.List.{AllByRecursion}
 use Rattle.disk_core.specs.Sides.{Within, Always}
 use Rattle.disk_core.specs.Sides.Always.{once, then as link}
@@ -17,6 +17,7 @@ use Rattle.wfs_model.specs.declared.change.Change.{Change}
 use Rattle.wfs_model.specs.State.{Durable}
 use Rattle.durable_journal.specs.Standing.{ComeTo, SaysKept, SaysWith}
 use Rattle.durable_journal.specs.Kept.{IsAtRest, Holds, Keeps}
+use Rattle.durable_journal.specs.Current.{current_in, HoldsJust}
 use Rattle.durable_journal.specs.Opened.{checkpoint_bodies}
 use Rattle.durable_journal.proofs.Checkpointed.{checkpoint_comes}
 use Rattle.durable_journal.proofs.Saying.{list_says, lists_say}
@@ -28,6 +29,10 @@ some_bodies schema kept = grind arith
 
 pub rest_holds : {D : Type 0} (images : D → List ℕ → Type 0) (schema : Schema) (kept : Durable) (journal : Journal D) → IsAtRest images schema kept journal → Holds images schema kept journal
 rest_holds images schema kept journal at = record { bodies = at.bodies; rests = at.rests; come = at.list.come; holdable = at.list.holdable }
+
+-- a journal at which nothing is begun holds just its list
+pub just_held : {D : Type 0} (images : D → List ℕ → Type 0) (bodies : List (List ℕ)) (journal : Journal D) → Rests images bodies (seen journal) → HoldsJust images (current_in journal) bodies (disks_of journal)
+just_held images bodies journal rests = record { list = rests.held.list; size = refl; ends = rests.held.ends; beside = rests.held.beside }
 
 pub at_rest_keeps : {D : Type 0} (images : D → List ℕ → Type 0) (schema : Schema) (kept : Durable) (journal : Journal D) → IsAtRest images schema kept journal → Keeps images schema kept None journal
 at_rest_keeps images schema kept journal at = inl at

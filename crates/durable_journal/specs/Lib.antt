@@ -4,4 +4,5 @@ pub mod Kept
 pub mod Recorded
 pub mod Faults
 pub mod Opened
+pub mod Current
 pub mod Counted

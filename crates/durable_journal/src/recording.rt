@@ -8,6 +8,7 @@ ghost use Rattle.feature_values.specs.declared.schema.Schema.{Schema};
 ghost use Rattle.wfs_model.specs.declared.change.Change.{Change};
 ghost use Rattle.wfs_model.specs.State.{Durable};
 ghost use Rattle.durable_journal.specs.Standing.{SaysEither};
+ghost use Rattle.durable_journal.specs.Current.{current_in};
 ghost use Rattle.durable_journal.specs.Kept.{Keeps};
 ghost use Rattle.durable_journal.specs.Recorded.{MayAppend, IsRecorded, longer_by};
 
@@ -43,6 +44,7 @@ pub fn record_change<D: Disk>(journal: &mut Journal<D>, body: &[u8]) -> Recorded
         → Always D.moment D.since (SaysEither schema kept begun (Some change)) (disks_of journal.old) (disks_of journal.new) }
     ensures longer { length_of journal.new ≡ length_of journal.old + longer_by result body.now }
     ensures limit { limit_of journal.new ≡ limit_of journal.old }
+    ensures current { current_in journal.new ≡ current_in journal.old }
     ensures count { NoneFell D.faults (disks_of journal.old) (disks_of journal.new) }
     ensures cause { (result ≡ Recorded.Done) ⊎ OneRose D.faults (disks_of journal.old) (disks_of journal.new) }
 {

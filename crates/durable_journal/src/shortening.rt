@@ -10,6 +10,7 @@ ghost use Rattle.feature_schema.specs.Rules.{KeepsRules};
 ghost use Rattle.wfs_model.specs.declared.change.Change.{Change};
 ghost use Rattle.durable_journal.specs.Standing.{SaysKept, SaysWith};
 ghost use Rattle.durable_journal.specs.Kept.{Holds, IsAtRest, Keeps};
+ghost use Rattle.durable_journal.specs.Current.{current_in, HoldsCheckpoint};
 ghost use Rattle.durable_journal.specs.Opened.{checkpoint_bodies};
 
 use checkpoints::{CompactFault, compact};
@@ -51,7 +52,8 @@ pub(crate) fn make_checkpoint<D: Disk>(
 /// first what an earlier fault left begun.
 ///
 /// At each moment a crash leaves what is kept, or it with the change that was begun, where one was. After Ok nothing is
-/// begun. After a refusal the journal's side is what it was, and what was begun is ended, unless a disk failed first.
+/// begun, the other side is current, under the next generation, and it holds just the records of the checkpoint. After a
+/// refusal the journal's side is what it was, and what was begun is ended, unless a disk failed first.
 ///
 /// # Errors
 ///
@@ -65,6 +67,7 @@ pub fn shorten<D: Disk>(
     requires rules { KeepsRules features.now.schema }
     requires keeps { (begun : Option Change) × Keeps D.images features.now.schema features.now.kept begun journal.old }
     ensures rests { OnOk result (Rests D.images (checkpoint_bodies features.now.schema features.now.kept) (seen journal.new)) }
+    ensures holds { OnOk result (HoldsCheckpoint D.images (current_in journal.new) features.now.schema features.now.kept (disks_of journal.new)) }
     ensures keeps { OnOk result (Keeps D.images features.now.schema features.now.kept None journal.new) }
     ensures fault { OnErr result ((begun : Option Change) → Keeps D.images features.now.schema features.now.kept begun journal.old
         → Keeps D.images features.now.schema features.now.kept None journal.new ⊎ ((result ≡ Err CompactFault.DiskFault) × Keeps D.images features.now.schema features.now.kept begun journal.new)) }

@@ -4,6 +4,7 @@ pub mod Boxing
 pub mod Copying
 pub mod Counts
 pub mod Finding
+pub mod Fronts
 pub mod Holds
 pub mod Laying
 pub mod Naming

@@ -3,7 +3,7 @@ use Rattle.std.specs.Prelude.{◌≡◌, ℕ, List, length, All}
 use Rattle.feature_values.specs.declared.feature.Feature.{Feature}
 use Rattle.grid_index.specs.Near.{Placed}
 use Rattle.feature_versions.specs.declared.rows.Row.{Row}
-use Rattle.feature_versions.specs.Rows.{AreRows, live}
+use Rattle.feature_versions.specs.Rows.{AreGone, AreRows, live}
 use Rattle.feature_versions.specs.Placed.{HoldsBoxes, AreBoxed}
 
 pub record Layered : Type 0 where
@@ -21,3 +21,8 @@ pub record IsLayer (kind : ℕ) (rows : List Row) (count : ℕ) (pairs : List Pl
   pub counted : count ≡ length (live rows)
   pub boxes : HoldsBoxes pairs (live rows)
   pub boxed : All AreBoxed (live rows)
+
+-- the same, where the first feature stands from a place on
+pub record IsLayerFrom (first kind : ℕ) (rows : List Row) (count : ℕ) (pairs : List Placed) : Type 0 where
+  pub layer : IsLayer kind rows count pairs
+  pub gone : AreGone first rows

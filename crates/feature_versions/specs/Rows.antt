@@ -1,5 +1,5 @@
 -- The rows of one type: under each number that was used a feature, or nothing where it is gone.
-use Rattle.std.specs.Prelude.{◌≡◌, ℕ, ◌<◌, Bool, false, ◌==◌, List, [], ◌∷◌, flat_map, All, Option, Some, None, ⊤}
+use Rattle.std.specs.Prelude.{◌≡◌, ℕ, ◌<◌, Bool, false, ◌==◌, List, [], ◌∷◌, take, flat_map, All, Option, Some, None, ⊤}
 use Rattle.std.specs.Option.{option_to_list, option_and_then, IfSome}
 use Rattle.feature_values.specs.declared.feature.Feature.{Feature}
 use Rattle.feature_versions.specs.declared.rows.Row.{Row}
@@ -11,6 +11,10 @@ live_in row = option_to_list row.feature
 -- the features of rows, in order
 abbrev pub live : List Row → List Feature
 live rows = flat_map live_in rows
+
+-- the first so many rows have no feature
+abbrev pub AreGone : ℕ → List Row → Type 0
+AreGone n rows = live (take n rows) ≡ []
 
 -- each row has a number below those of all that follow it
 abbrev pub IsRising : List Row → Type 0

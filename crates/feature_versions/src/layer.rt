@@ -12,7 +12,9 @@ ghost use Rattle.feature_versions.specs.Rows.{live_in, live, IsOwn};
 ghost use Rattle.feature_versions.specs.Types.{IsAlike, IsRoomier};
 
 use crate::boxes::{displace, place, push_boxes};
-use crate::rows::{Row, feature_behind, feature_from, feature_in, put, sweep, take_out};
+use crate::rows::{
+    Row, feature_behind, feature_from, feature_in, first_live, put, sweep, take_out,
+};
 use feature_values::{Feature, Rid};
 use geom_core::Box2;
 use grid_index::Grid;
@@ -38,6 +40,8 @@ fn all_boxes(alloc: Global, rows: &[Row]) -> Mem<List<Box2>>
 pub(crate) struct Layer {
     kind: u32,
     rows: Vec<Row>,
+    // no row before this place has a feature
+    first: usize,
     // how many rows have a feature
     count: usize,
     grid: Grid,
@@ -47,13 +51,13 @@ impl Model for Layer {
     ghost use Rattle.std.specs.Prelude.{◌-◌};
     ghost use Rattle.std.specs.Vec.{vec_len, vec_capacity};
     ghost use Rattle.feature_versions.specs.Rows.{live};
-    ghost use Rattle.feature_versions.specs.Layer.{Layered, IsLayer};
+    ghost use Rattle.feature_versions.specs.Layer.{Layered, IsLayerFrom};
 
     ghost Value = { Layered };
 
     ghost view = { λ l. record { kind = l.kind; features = live l.rows.items; rows = vec_capacity l.rows - vec_len l.rows; places = l.grid.room } };
 
-    ghost invariant = { λ l. IsLayer l.kind l.rows.items l.count l.grid.pairs };
+    ghost invariant = { λ l. IsLayerFrom l.first l.kind l.rows.items l.count l.grid.pairs };
 }
 
 impl Layer {
@@ -65,6 +69,7 @@ impl Layer {
         Layer {
             kind,
             rows: Vec::new(alloc),
+            first: 0,
             count: 0,
             grid: Grid::new(alloc),
         }
@@ -89,7 +94,7 @@ impl Layer {
     pub(crate) fn first(&self) -> (Option<&Feature>, usize)
         ensures { option_copied result.0 ≡ slice_get self.now.features 0 }
     {
-        feature_from(self.rows.as_slice(), 0)
+        feature_from(self.rows.as_slice(), self.first)
     }
 
     /// The first feature behind an identifier, which need not be there, and the place behind it. A guess is looked at first.
@@ -122,7 +127,9 @@ impl Layer {
         ensures places { self.old.places ≤ self.new.places + places_of feature }
     {
         place(&mut self.grid, &feature);
-        match put(&mut self.rows, feature) {
+        let (old, place) = put(&mut self.rows, feature);
+        self.first = self.first.min(place);
+        match old {
             Some(old) => displace(&mut self.grid, &old),
             None => self.count += 1,
         }
@@ -142,6 +149,9 @@ impl Layer {
             // each sweep goes over at most twice the rows whose features went since the last one
             if self.count < self.rows.len() / 2 {
                 sweep(&mut self.rows);
+                self.first = 0;
+            } else {
+                self.first = first_live(self.rows.as_slice(), self.first);
             }
         }
     }

@@ -1,12 +1,12 @@
 //! The rows of one type by rising numbers: where one stands, and how a feature is put and taken out in place.
 
-ghost use Rattle.std.specs.Prelude.{◌≡◌, ◌+◌, ◌<◌, ◌≤◌, true, false, Some, None, IsTrue, length, nat_lt, drop, slice_get};
+ghost use Rattle.std.specs.Prelude.{◌≡◌, ◌+◌, ◌<◌, ◌≤◌, true, false, Some, None, IsTrue, length, min, nat_lt, drop, slice_get};
 ghost use Rattle.std.specs.List.{AllWithin};
 ghost use Rattle.std.specs.Option.{option_copied};
 ghost use Rattle.std.specs.Vec.{vec_len, vec_capacity};
 ghost use Rattle.fes_filter.specs.View.{feature_at, next_after};
 ghost use Rattle.feature_overlay.specs.Laid.{laid};
-ghost use Rattle.feature_versions.specs.Rows.{live, IsRising, AreRows, has_number, feature_of};
+ghost use Rattle.feature_versions.specs.Rows.{live, IsRising, AreGone, AreRows, has_number, feature_of};
 
 use feature_values::{Feature, Rid};
 use std::mem::replace;
@@ -109,13 +109,27 @@ pub(crate) fn feature_behind(rows: &[Row], id: Rid, guess: usize) -> (Option<&Fe
     feature_from(rows, place_behind(rows, id))
 }
 
-/// Puts a feature, for which there is room, and gives back the one that stood in its place.
-pub(crate) fn put(rows: &mut Vec<Row>, feature: Feature) -> Option<Feature>
+/// The place of the first row from a place on that has a feature, where one has.
+#[tactic(auto, using(crate::proofs::Fronts::gone_more))]
+pub(crate) fn first_live(rows: &[Row], from: usize) -> usize
+    ensures { AreGone from rows.now → AreGone result rows.now }
+{
+    for place in from..rows.len() {
+        if let Some(_) = &rows[place].feature {
+            return place;
+        }
+    }
+    from
+}
+
+/// Puts a feature, for which there is room. It gives back the one that stood in its place, and tells the place.
+pub(crate) fn put(rows: &mut Vec<Row>, feature: Feature) -> (Option<Feature>, usize)
     requires rows { AreRows feature.id.kind rows.old.items }
     requires room { vec_len rows.old < vec_capacity rows.old }
-    ensures was { result ≡ feature_at feature.id (live rows.old.items) }
+    ensures was { result.0 ≡ feature_at feature.id (live rows.old.items) }
     ensures items { live rows.new.items ≡ laid (live rows.old.items) feature.id (Some feature) }
     ensures rows { AreRows feature.id.kind rows.new.items }
+    ensures gone { (n : _) → AreGone n rows.old.items → AreGone (min n result.1) rows.new.items }
     ensures len { vec_len rows.new ≤ vec_len rows.old + 1 }
     ensures capacity { vec_capacity rows.old ≤ vec_capacity rows.new }
 {
@@ -126,10 +140,10 @@ pub(crate) fn put(rows: &mut Vec<Row>, feature: Feature) -> Option<Feature>
         feature: Some(feature),
     };
     if is_at(rows.as_slice(), place, number) {
-        return replace(&mut rows[place], row).feature;
+        return (replace(&mut rows[place], row).feature, place);
     }
     match rows.insert(place, row) {
-        Ok(()) => None,
+        Ok(()) => (None, place),
         Err(_) => unreachable!(),
     }
 }
@@ -140,6 +154,7 @@ pub(crate) fn take_out(rows: &mut Vec<Row>, id: Rid) -> Option<Feature>
     ensures was { result ≡ feature_at id (live rows.old.items) }
     ensures items { live rows.new.items ≡ laid (live rows.old.items) id None }
     ensures rows { AreRows id.kind rows.new.items }
+    ensures gone { (n : _) → AreGone n rows.old.items → AreGone n rows.new.items }
     ensures len { vec_len rows.new ≡ vec_len rows.old }
     ensures capacity { vec_capacity rows.new ≡ vec_capacity rows.old }
 {

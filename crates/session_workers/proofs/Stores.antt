@@ -21,10 +21,10 @@ use Rattle.wfs_store.specs.Held.{Held, now_of, kept_of}
 use Rattle.wfs_store.specs.Stepped.{IsStepOf, SameOpening, change_by, taken_up}
 
 same_opening : {D : Type 0} (held : Held D) → SameOpening held held
-same_opening held = record { schema = refl; limits = refl; opening = refl; side = refl }
+same_opening held = record { schema = refl; limits = refl; opening = refl; side = refl; current = refl }
 
 opening_both : {D : Type 0} (a b c : Held D) → SameOpening a b → SameOpening b c → SameOpening a c
-opening_both a b c g h = record { schema = h.schema ∙ g.schema; limits = h.limits ∙ g.limits; opening = h.opening ∙ g.opening; side = h.side ∙ g.side }
+opening_both a b c g h = record { schema = h.schema ∙ g.schema; limits = h.limits ∙ g.limits; opening = h.opening ∙ g.opening; side = h.side ∙ g.side; current = h.current ∙ g.current }
 
 -- the history of a store is this, where its parts are
 served_is : {D : Type 0} (held : Held D) (served : Served) → held.schema ≡ served.schema → held.opening ≡ served.opening → held.entries ≡ served.entries → served_of held ≡ served

@@ -1,3 +1,4 @@
 pub mod Places
+pub mod Sending
 pub mod Steps
 pub mod Taken

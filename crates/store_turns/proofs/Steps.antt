@@ -35,7 +35,7 @@ begun_after_none None begun none = none
 begun_after_none (Some change) begun none = refl
 
 opening_both : {D : Type 0} (a b c : Held D) → SameOpening a b → SameOpening b c → SameOpening a c
-opening_both a b c g h = record { schema = h.schema ∙ g.schema; limits = h.limits ∙ g.limits; opening = h.opening ∙ g.opening; side = h.side ∙ g.side }
+opening_both a b c g h = record { schema = h.schema ∙ g.schema; limits = h.limits ∙ g.limits; opening = h.opening ∙ g.opening; side = h.side ∙ g.side; current = h.current ∙ g.current }
 
 -- ---- a step
 

@@ -99,9 +99,9 @@ module _ {D : Type 0} (p s1 s3 : Known D) (x x' : Counter D) where
 
 -- ---- the opening
 
--- a store has what its first has, where a definition reads schema, limits, opening and side
+-- a store has what its first has, where a definition reads schema, limits, opening and the current side
 is_having : {D : Type 0} (first x : Held D) → SameOpening first x → having first x.entries ≡ record x { begun = first.begun; tally = first.tally; disks = first.disks }
-is_having first x same = rw (same.schema, same.limits, same.opening, same.side) refl
+is_having first x same = rw (same.schema, same.limits, same.opening, same.side, same.current) refl
 
 legal_by : {D : Type 0} (faults : D → ℕ) (first x : Held D) → StaysOpen faults first x → first.entries ≡ [] → HasLegalHistory (having first x.entries)
 legal_by faults first x kept none =

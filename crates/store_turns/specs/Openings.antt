@@ -33,7 +33,7 @@ pub record StaysOpen {D : Type 0} (faults : D → ℕ) (old new : Held D) : Type
 -- a store has its own opening
 abbrev pub stays_open : {D : Type 0} (faults : D → ℕ) (held : Held D) → StaysOpen faults held held
 stays_open faults held = record {
-  same = record { schema = refl; limits = refl; opening = refl; side = refl };
+  same = record { schema = refl; limits = refl; opening = refl; side = refl; current = refl };
   legal = λ legal. legal;
   count = (le_refl (faults held.disks.a), le_refl (faults held.disks.b));
   begun = λ none calm. none;

@@ -5,6 +5,7 @@ use Rattle.std.specs.Prelude.{min}
 use Rattle.disk_core.specs.declared.pair.Pair.{Pair}
 use Rattle.disk_core.specs.Sides.{Always, EveryBoth}
 use Rattle.disk_core.specs.Sides.Always.{once}
+use Rattle.durable_journal.specs.Current.{current_in}
 use Rattle.durable_journal.specs.Kept.{Keeps}
 use Rattle.durable_journal.specs.Standing.{SaysEither, SaysWith}
 use Rattle.feature_journal.specs.declared.journal.Journal.{Journal}
@@ -52,8 +53,8 @@ module _ {D : Type 0} (moment : D → ℕ) (since : D → ℕ → List ℕ → T
   judged_none : full_in (opening_on old.state.schema bodies) side old entry ≡ None → full_for was entry ≡ None
   judged_none judged = subst (λ (s : State). full_at old.state.schema (body_length old.state.schema) side (opening_on old.state.schema bodies) old.limits old.history.items (timed s entry) ≡ None) now_is judged
 
-  same_opening : (after : Journal D) (left : Option Change) (counted : List ℕ) → SameOpening was (held_of mid after bodies side left counted)
-  same_opening after left counted = record { schema = same.schema; limits = same.limits; opening = ap (λ (s : Schema). opening_on s bodies) same.schema; side = refl }
+  same_opening : (after : Journal D) (left : Option Change) (counted : List ℕ) → current_in after ≡ current_in before → SameOpening was (held_of mid after bodies side left counted)
+  same_opening after left counted still = record { schema = same.schema; limits = same.limits; opening = ap (λ (s : Schema). opening_on s bodies) same.schema; side = refl; current = still }
 
   -- nothing is written
   stays : EveryBoth images (SaysWith old.state.schema (durable old.state.state) begun) (disks_of before)
@@ -71,7 +72,7 @@ module _ {D : Type 0} (moment : D → ℕ) (since : D → ℕ → List ℕ → T
       → IsStepOf moment since faults was entry (Err fault) (held_of mid before bodies side begun tally)
   refused_step StoreFault judged stand = absurd judged
   refused_step (Full at) judged stand = record {
-    opening = same_opening before begun tally;
+    opening = same_opening before begun tally refl;
     entered = same.entries;
     limited = judged_fault (Full at) judged;
     begun = refl;
@@ -82,7 +83,7 @@ module _ {D : Type 0} (moment : D → ℕ) (since : D → ℕ → List ℕ → T
     cause = λ e. absurd cc;
   }
   refused_step OutOfMemory judged stand = record {
-    opening = same_opening before begun tally;
+    opening = same_opening before begun tally refl;
     entered = same.entries;
     limited = tt;
     begun = refl;
@@ -126,10 +127,10 @@ module _ {D : Type 0} (moment : D → ℕ) (since : D → ℕ → List ℕ → T
     pub failed_step : (after : Journal D) (left : Option Change) (counted : List ℕ) → full_in (opening_on old.state.schema bodies) side old entry ≡ None
         → Always moment since (SaysEither old.state.schema (durable old.state.state) begun copy) (disks_of before) (disks_of after)
         → WasLeft begun copy left → (copy ≡ None → ⊥) → counted ≡ one_more tally entry.seat
-        → NoneFell faults (disks_of before) (disks_of after) → OneRose faults (disks_of before) (disks_of after)
+        → NoneFell faults (disks_of before) (disks_of after) → OneRose faults (disks_of before) (disks_of after) → current_in after ≡ current_in before
         → IsStepOf moment since faults was entry (Err StoreFault) (held_of mid after bodies side left counted)
-    failed_step after left counted full goes was_left some more fell rose = record {
-      opening = same_opening after left counted;
+    failed_step after left counted full goes was_left some more fell rose still = record {
+      opening = same_opening after left counted still;
       entered = same.entries;
       limited = judged_none full;
       begun = subst (λ (made : Option Change). WasLeft begun made left) copy_by was_left;
@@ -146,10 +147,10 @@ module _ {D : Type 0} (moment : D → ℕ) (since : D → ℕ → List ℕ → T
         → left ≡ begun_after copy begun → (copy ≡ None → after ≡ before) → NoneFell faults (disks_of before) (disks_of after)
         → new.history.items ≡ mid.history.items ++ record entry { moment = ready.moment } ∷ []
         → (reply, new.state.state) ≡ step mid.state.schema mid.state.state ready.moment entry.request
-        → new.state.schema ≡ mid.state.schema → new.limits ≡ mid.limits
+        → new.state.schema ≡ mid.state.schema → new.limits ≡ mid.limits → current_in after ≡ current_in before
         → IsStepOf moment since faults was entry (Ok reply) (held_of new after bodies side left tally)
-    done_step new after left reply full goes left_is unwritten fell entries stepped schema limits = record {
-      opening = record { schema = schema ∙ same.schema; limits = limits ∙ same.limits; opening = ap (λ (s : Schema). opening_on s bodies) (schema ∙ same.schema); side = refl };
+    done_step new after left reply full goes left_is unwritten fell entries stepped schema limits still = record {
+      opening = record { schema = schema ∙ same.schema; limits = limits ∙ same.limits; opening = ap (λ (s : Schema). opening_on s bodies) (schema ∙ same.schema); side = refl; current = still };
       entered = (entries ∙ ap (λ (l : List Entry). l ++ record entry { moment = ready.moment } ∷ []) same.entries ∙ ap (λ (e : Entry). old.history.items ++ e ∷ []) taken_is, reply_is);
       limited = judged_none full;
       begun = left_is ∙ ap (λ (made : Option Change). begun_after made begun) copy_by;

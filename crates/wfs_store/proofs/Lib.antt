@@ -3,6 +3,7 @@ pub mod Ends
 pub mod Histories
 pub mod Limits
 pub mod Recordable
+pub mod Sending
 pub mod Short
 pub mod Shortened
 pub mod Starts

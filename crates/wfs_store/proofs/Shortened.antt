@@ -1,18 +1,19 @@
 -- What making the journal shorter comes to at each of its ends.
 use Rattle.std.proofs.Common.{◌≡◌, ◌⊎◌, inl, inr, ⊎_elim, ℕ, ◌≤◌, List, [], Option, Some, None, Result, Ok, Err, refl, ap, ◌∙◌, subst, arith}
-use Rattle.std.specs.Prelude.{min}
+use Rattle.std.specs.Prelude.{◌+◌, min, not}
 use Rattle.checkpoints.specs.declared.fault.CompactFault.{CompactFault}
 use Rattle.checkpoints.specs.declared.fault.CompactFault.TheVariants as compacting
 use Rattle.checkpoints.specs.Length.{side_length, Passes}
 use Rattle.disk_core.specs.declared.pair.Pair.{Pair}
 use Rattle.disk_core.specs.Sides.{Always, Within}
 use Rattle.disk_core.specs.Sides.Always.{once, then as link}
+use Rattle.durable_journal.specs.Current.{current_in, turned, HoldsCheckpoint}
 use Rattle.durable_journal.specs.Kept.{Keeps}
 use Rattle.durable_journal.specs.Opened.{checkpoint_bodies}
 use Rattle.durable_journal.specs.Standing.{SaysKept, SaysWith}
 use Rattle.feature_journal.specs.declared.journal.Journal.{Journal}
 use Rattle.feature_journal.specs.Faults.{NoneFell, OneRose}
-use Rattle.feature_journal.specs.Kept.{SameSide, disks_of, length_of, limit_of}
+use Rattle.feature_journal.specs.Kept.{SameSide, disks_of, is_second, generation_in, length_of, limit_of}
 use Rattle.feature_journal.proofs.Knowing.{always_more}
 use Rattle.feature_values.specs.declared.schema.Schema.{Schema}
 use Rattle.wfs_ends.specs.Ends.{last_count, Rose}
@@ -40,6 +41,13 @@ same_on a b c first second = record {
   length = second.length ∙ first.length;
   limit = second.limit ∙ first.limit;
 }
+
+-- the current side, where it stays, and where the other one is made behind a call that left it
+same_current : {D : Type 0} (a b : Journal D) → SameSide a b → current_in b ≡ current_in a
+same_current a b same = rw (same.second, same.generation) refl
+
+next_current : {D : Type 0} (a b c : Journal D) → SameSide a b → is_second c ≡ not (is_second b) → generation_in c ≡ generation_in b + 1 → current_in c ≡ turned (current_in a)
+next_current a b c same second generation = rw (second, generation, same.second, same.generation) refl
 
 same_fault : (fault : StepFault) → (let r : Result (Unit {0}) StepFault = Err fault in r) ≡ Err StoreFault → fault ≡ StoreFault
 same_fault fault is = cc
@@ -132,11 +140,12 @@ module _ {D : Type 0} (moment : D → ℕ) (since : D → ℕ → List ℕ → T
 
   -- the record that was begun was not ended
   pub not_mended : (after : Journal D) → Within moment since (SaysWith course.state.schema (durable course.state.state) begun) (disks_of before) (disks_of after)
-      → NoneFell faults (disks_of before) (disks_of after) → OneRose faults (disks_of before) (disks_of after)
-      → IsCompactionOf moment since faults was (Err StoreFault) (held_of course after bodies side begun tally)
-  not_mended after goes fell rose = record {
+      → NoneFell faults (disks_of before) (disks_of after) → OneRose faults (disks_of before) (disks_of after) → SameSide before after
+      → IsCompactionOf moment since images faults was (Err StoreFault) (held_of course after bodies side begun tally)
+  not_mended after goes fell rose still = record {
     same = refl;
     side = refl;
+    current = same_current before after still;
     begun = inr refl;
     full = λ at e. absurd cc;
     goes = goes_with after (once (disks_of before) (disks_of after) goes);
@@ -176,11 +185,12 @@ module _ {D : Type 0} (moment : D → ℕ) (since : D → ℕ → List ℕ → T
       → Always moment since (SaysWith course.state.schema (durable course.state.state) None) (disks_of mid) (disks_of after)
       → ((sum : ℕ) → fault ≡ compacting.Full sum → (sum ≡ last_count) ⊎ Passes course.limits.side sum (checkpoint_bodies course.state.schema (durable course.state.state)))
       → NoneFell faults (disks_of before) (disks_of mid) → NoneFell faults (disks_of mid) (disks_of after)
-      → (from_compaction fault ≡ StoreFault → OneRose faults (disks_of before) (disks_of after))
-      → IsCompactionOf moment since faults was (Err (from_compaction fault)) (held_of course after bodies side None tally)
-  not_shortened fault mid after first second full fell fell_then rose = record {
+      → (from_compaction fault ≡ StoreFault → OneRose faults (disks_of before) (disks_of after)) → SameSide before after
+      → IsCompactionOf moment since images faults was (Err (from_compaction fault)) (held_of course after bodies side None tally)
+  not_shortened fault mid after first second full fell fell_then rose still = record {
     same = refl;
     side = refl;
+    current = same_current before after still;
     begun = ended_is (from_compaction fault) after;
     full = full_is fault full;
     goes = both_go mid after first second;
@@ -193,10 +203,16 @@ module _ {D : Type 0} (moment : D → ℕ) (since : D → ℕ → List ℕ → T
       → Always moment since (SaysWith course.state.schema (durable course.state.state) None) (disks_of mid) (disks_of after)
       → told ≡ side_length (checkpoint_bodies course.state.schema (durable course.state.state))
       → NoneFell faults (disks_of before) (disks_of mid) → NoneFell faults (disks_of mid) (disks_of after)
-      → IsCompactionOf moment since faults was (Ok tt) (held_of course after bodies told None tally)
-  done_shorter mid after told first second long fell fell_then = record {
+      → SameSide before mid → is_second after ≡ not (is_second mid) → generation_in after ≡ generation_in mid + 1
+      → HoldsCheckpoint images (current_in after) course.state.schema (durable course.state.state) (disks_of after)
+      → IsCompactionOf moment since images faults was (Ok tt) (held_of course after bodies told None tally)
+  done_shorter mid after told first second long fell fell_then still other next holds = record {
     same = refl;
     side = long ∙ ap (λ (s : State). side_length (checkpoint_bodies course.state.schema (durable s))) now_is;
+    current = record {
+      turned = next_current before mid after still other next;
+      holds = subst (λ (s : State). HoldsCheckpoint images (current_in after) course.state.schema (durable s) (disks_of after)) now_is holds;
+    };
     begun = refl;
     full = λ at e. absurd cc;
     goes = both_go mid after first second;

@@ -4,6 +4,7 @@ use Rattle.checkpoints.specs.declared.fault.CompactFault.{CompactFault}
 use Rattle.checkpoints.specs.declared.fault.CompactFault.TheVariants as compacting
 use Rattle.checkpoints.specs.Length.{side_length, Passes}
 use Rattle.disk_core.specs.Sides.{Always}
+use Rattle.durable_journal.specs.Current.{HoldsCheckpoint, turned}
 use Rattle.durable_journal.specs.Opened.{checkpoint_bodies}
 use Rattle.durable_journal.specs.Standing.{SaysWith}
 use Rattle.feature_journal.specs.Faults.{NoneFell, OneRose}
@@ -29,6 +30,16 @@ abbrev pub Sided : {D : Type 0} → Held D → Result (Unit {0}) StepFault → H
 Sided old (Ok done) new = new.side ≡ side_length (checkpoint_in old)
 Sided old (Err fault) new = new.side ≡ old.side
 
+-- The other side is current, with the next generation, and the disks hold just the records of the checkpoint there.
+pub record HasTurned {D : Type 0} (images : D → List ℕ → Type 0) (old new : Held D) : Type 0 where
+  pub turned : new.current ≡ turned old.current
+  pub holds : HoldsCheckpoint images new.current old.schema (kept_of old) new.disks
+
+-- or, after a fault, the same side is current
+abbrev pub Turned : {D : Type 0} (images : D → List ℕ → Type 0) → Held D → Result (Unit {0}) StepFault → Held D → Type 0
+Turned images old (Ok done) new = HasTurned images old new
+Turned images old (Err fault) new = new.current ≡ old.current
+
 -- What was begun is ended, unless a disk failed.
 abbrev pub IsEnded : {D : Type 0} → Held D → Result (Unit {0}) StepFault → Held D → Type 0
 IsEnded old (Err StoreFault) new = (new.begun ≡ None) ⊎ (new.begun ≡ old.begun)
@@ -40,9 +51,10 @@ IsFullSide old result =
     (at : FullAt) → result ≡ Err (Full at) → (at.limit ≡ Side) × ((at.number ≡ last_count) ⊎ Passes old.limits.side at.number (checkpoint_in old))
 
 -- A store whose journal is made shorter.
-pub record IsCompactionOf {D : Type 0} (moment : D → ℕ) (since : D → ℕ → List ℕ → Type 0) (faults : D → ℕ) (old : Held D) (result : Result (Unit {0}) StepFault) (new : Held D) : Type 0 where
-  pub same : new ≡ record old { side = new.side; begun = new.begun; disks = new.disks }
+pub record IsCompactionOf {D : Type 0} (moment : D → ℕ) (since : D → ℕ → List ℕ → Type 0) (images : D → List ℕ → Type 0) (faults : D → ℕ) (old : Held D) (result : Result (Unit {0}) StepFault) (new : Held D) : Type 0 where
+  pub same : new ≡ record old { side = new.side; current = new.current; begun = new.begun; disks = new.disks }
   pub side : Sided old result new
+  pub current : Turned images old result new
   pub begun : IsEnded old result new
   pub full : IsFullSide old result
   -- at each moment a crash leaves what was kept, with what was begun or without

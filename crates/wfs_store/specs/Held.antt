@@ -1,6 +1,7 @@
 -- What a store is seen as.
 use Rattle.std.specs.Prelude.{ℕ, List, Option}
 use Rattle.disk_core.specs.declared.pair.Pair.{Pair}
+use Rattle.durable_journal.specs.Current.{Current}
 use Rattle.feature_values.specs.declared.schema.Schema.{Schema}
 use Rattle.wfs_model.specs.declared.change.Change.{Change}
 use Rattle.wfs_model.specs.declared.entry.Entry.{Entry}
@@ -17,6 +18,8 @@ pub record Held (D : Type 0) : Type 0 where
   pub entries : List Entry
   -- how long the journal's side was when the opening's record, or the last checkpoint, had been written
   pub side : ℕ
+  -- which of the two disks has the current side, and its generation
+  pub current : Current
   -- the change whose record a fault left begun: a crash may leave it made
   pub begun : Option Change
   -- how many steps of each seat ended in a store fault, by the seat's number

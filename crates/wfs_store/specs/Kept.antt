@@ -1,5 +1,6 @@
 -- What a store keeps between its calls: its memory is the state after the history, and its journal stands for what outlives the process.
 use Rattle.std.specs.Prelude.{◌≡◌, ℕ, ◌+◌, ◌≤◌, List, length, Option, Result, Ok, Err}
+use Rattle.durable_journal.specs.Current.{current_in}
 use Rattle.durable_journal.specs.Kept.{Keeps}
 use Rattle.durable_journal.specs.Standing.{ComeTo}
 use Rattle.feature_journal.specs.declared.journal.Journal.{Journal}
@@ -64,6 +65,7 @@ held_of course journal bodies side begun tally = record {
   opening = opening_on course.state.schema bodies;
   entries = course.history.items;
   side = side;
+  current = current_in journal;
   begun = begun;
   tally = tally;
   disks = disks_of journal;

@@ -29,12 +29,13 @@ full_for held entry = full_at held.schema (body_length held.schema) held.side he
 abbrev pub change_by : {D : Type 0} → Held D → Entry → Option Change
 change_by held entry = change_of held.schema (now_of held) (taken_up held entry).moment entry.request
 
--- the same schema, limits, opening and side
+-- the same schema, limits, opening and side, which is still the current one
 pub record SameOpening {D : Type 0} (old new : Held D) : Type 0 where
   pub schema : new.schema ≡ old.schema
   pub limits : new.limits ≡ old.limits
   pub opening : new.opening ≡ old.opening
   pub side : new.side ≡ old.side
+  pub current : new.current ≡ old.current
 
 -- The history after a step: one entry more where it answered a reply, which is that of the step there.
 abbrev pub Entered : {D : Type 0} → Held D → Entry → Result Reply StepFault → Held D → Type 0

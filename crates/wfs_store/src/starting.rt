@@ -1,6 +1,7 @@
 //! A store begins with what its journal holds.
 
 ghost use Rattle.std.specs.Prelude.{◌≡◌, ◌≤◌, ◌⊎◌, ℕ, List, All, IfOk, IfErr, Some, length};
+ghost use Rattle.durable_journal.specs.Current.{HoldsSome};
 ghost use Rattle.durable_journal.specs.Opened.{IsOfBytes, IsOpened, IsRefusal};
 ghost use Rattle.durable_journal.specs.Standing.{ComeTo, SaysOpened};
 ghost use Rattle.feature_journal.specs.Faults.{NoneFell, OneRose};
@@ -37,6 +38,7 @@ fn begin<D: Disk>(alloc: Global, opened: Opened<D>, signature: Text, limits: Lim
     ensures begun { HasBegun opened.features.schema limits result }
     ensures opening { result.opening ≡ opening_on opened.features.schema opened.bodies }
     ensures disks { result.disks ≡ disks_of opened.journal }
+    ensures current { HoldsSome D.images result.current result.disks }
 {
     what_bodies_come_to_is_kept_well();
     let Opened {
@@ -83,6 +85,7 @@ impl<D: Disk> Store<D> {
         requires rules { KeepsRules schema.now }
         ensures begun { IfOk result (HasBegun schema.now limits) }
         ensures opens { IfOk result (λ s. (a b : List ℕ) → D.shown disks.a ≡ Some a → D.shown disks.b ≡ Some b → OpensOn schema.now (outcome_of (verdict_on schema.now) limits.side a b) s.opening) }
+        ensures current { IfOk result (λ s. HoldsSome D.images s.current s.disks) }
         ensures refused { IfErr result (λ e. (a b : List ℕ) → D.shown disks.a ≡ Some a → D.shown disks.b ≡ Some b → IsRefusal schema.now limits.side (outcome_of (verdict_on schema.now) limits.side a b) e.1) }
         ensures unwritten { IfErr result (λ e. IsOfBytes e.1 → Untouched D.shown D.moment D.since D.images disks e.0) }
         ensures goes { IfOk result (λ s. (a b : List ℕ) (lists : List (List (List ℕ))) (kept : Durable) → D.shown disks.a ≡ Some a → D.shown disks.b ≡ Some b → (s' : Says lists a b) → All (ComeTo schema.now kept) lists

@@ -32,8 +32,8 @@ use wfs_model::{Change, Entry, Reply, Request};
 /// The service's state in memory and on its two disks: a step is planned, journaled and applied, or nothing happened.
 ///
 /// Contracts see the schema, the limits, the state in which this opening began, the history of this opening, how long the journal's side was
-/// at the beginning, the change that a fault left begun, how many steps of each seat ended in a store fault, and the disks. At each moment the
-/// disks stand for what the history leaves, or for that with the one change that is begun.
+/// at the beginning, which side is current, and its generation, the change that a fault left begun, how many steps of each seat ended in a store
+/// fault, and the disks. At each moment the disks stand for what the history leaves, or for that with the one change that is begun.
 #[derive(Drop)]
 pub struct Store<D: Disk> {
     pub(crate) course: Course,
@@ -47,6 +47,7 @@ pub struct Store<D: Disk> {
 
 impl<D: Disk> Model for Store<D> {
     ghost use Rattle.std.specs.Coded.{codes};
+    ghost use Rattle.durable_journal.specs.Current.{current_in};
     ghost use Rattle.feature_journal.specs.Kept.{disks_of};
     ghost use Rattle.fes_filter.specs.contracts.filter.Filter as filter_row;
     ghost use Rattle.wfs_store.specs.Held.{Held};
@@ -57,7 +58,7 @@ impl<D: Disk> Model for Store<D> {
 
     ghost use Rattle.wfs_store.specs.Kept.{IsStore, opening_on};
 
-    ghost view = { λ s. record { schema = s.course.state.schema; limits = s.course.limits; opening = opening_on s.course.state.schema s.bodies; entries = s.course.history.items; side = s.side; begun = s.begun; tally = s.tally; disks = disks_of s.journal } };
+    ghost view = { λ s. record { schema = s.course.state.schema; limits = s.course.limits; opening = opening_on s.course.state.schema s.bodies; entries = s.course.history.items; side = s.side; current = current_in s.journal; begun = s.begun; tally = s.tally; disks = disks_of s.journal } };
 
     ghost invariant = { λ s. IsStore D.images s.course s.journal s.bodies s.side s.begun };
 }
@@ -132,7 +133,8 @@ impl<D: Disk> Store<D> {
         self.journal.side_length()
     }
 
-    /// Makes the journal just a checkpoint of what is kept, where there is no history yet. It ends first what a fault left begun.
+    /// Makes the journal just a checkpoint of what is kept, on the side that was not current, with the next generation, where there is no history
+    /// yet. It ends first what a fault left begun.
     ///
     /// # Errors
     ///
@@ -140,7 +142,7 @@ impl<D: Disk> Store<D> {
     /// generation is the last one. `OutOfMemory`.
     pub fn compact(&mut self) -> Result<(), StepFault>
         requires { self.old.entries ≡ [] }
-        ensures { IsCompactionOf D.moment D.since D.faults self.old result self.new }
+        ensures { IsCompactionOf D.moment D.since D.images D.faults self.old result self.new }
     {
         make_shorter(
             &self.course,

@@ -3,6 +3,7 @@
 ghost use Rattle.std.specs.Prelude.{◌≡◌, ◌+◌, None, Ok, OnErr, OnOk};
 ghost use Rattle.std.specs.Option.{IfSome};
 ghost use Rattle.disk_core.specs.Sides.{Always};
+ghost use Rattle.durable_journal.specs.Current.{current_in};
 ghost use Rattle.durable_journal.specs.Kept.{Keeps};
 ghost use Rattle.durable_journal.specs.Standing.{SaysEither};
 ghost use Rattle.feature_journal.specs.Faults.{NoneFell, OneRose};
@@ -37,6 +38,7 @@ pub(crate) fn write<D: Disk>(
     ensures longer { OnOk result (length_of journal.new ≡ length_of journal.old + longer_by change body.now) }
     ensures same { OnErr result (length_of journal.new ≡ length_of journal.old) }
     ensures limit { limit_of journal.new ≡ limit_of journal.old }
+    ensures current { current_in journal.new ≡ current_in journal.old }
     ensures unwritten { change ≡ None → (result ≡ Ok tt) × (journal.new ≡ journal.old) }
     ensures count { NoneFell D.faults (disks_of journal.old) (disks_of journal.new) }
     ensures cause { OnErr result (OneRose D.faults (disks_of journal.old) (disks_of journal.new)) }

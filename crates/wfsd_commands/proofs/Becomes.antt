@@ -48,7 +48,7 @@ rests_then faults a b begun begun' c (inl none) next before fell = by (next none
 module _ {D : Type 0} (faults : D → ℕ) where
   pub goes_none : (store : Held D) → GoesOn faults store store
   goes_none store = record {
-    opening = record { schema = refl; limits = refl; opening = refl; side = refl };
+    opening = record { schema = refl; limits = refl; opening = refl; side = refl; current = refl };
     grows = grows_none the_seat (history_of store);
     begun = λ none. inl none;
     count = (omega arith, omega arith);
@@ -61,6 +61,7 @@ module _ {D : Type 0} (faults : D → ℕ) where
       limits = h.opening.limits ∙ g.opening.limits;
       opening = h.opening.opening ∙ g.opening.opening;
       side = h.opening.side ∙ g.opening.side;
+      current = h.opening.current ∙ g.opening.current;
     };
     grows = grows_both the_seat (history_of a) (history_of b) (history_of c) g.grows h.grows;
     begun = λ none. rests_then faults a.disks b.disks b.begun c.begun c.disks (g.begun none) h.begun g.count h.count;

@@ -59,7 +59,7 @@ module _ {D : Type 0} (mean : DiskMeaning D) (first store : Held D) where
   no_entries : store.entries ≡ [] → IsLegalStore store × HasOwnEntries store
   no_entries none = rw none (tt, All-nil (IsEntryOf the_seat store.schema))
 
-  pub compacted_left : (result : Result (Unit {0}) StepFault) → IsCompactionOf mean.moment mean.since mean.faults first result store → first.entries ≡ [] → first.begun ≡ None → Stands mean store → IsLeft mean first.disks store
+  pub compacted_left : (result : Result (Unit {0}) StepFault) → IsCompactionOf mean.moment mean.since mean.images mean.faults first result store → first.entries ≡ [] → first.begun ≡ None → Stands mean store → IsLeft mean first.disks store
   compacted_left result is none begun stands =
       let empty : store.entries ≡ [] = ap (λ (s : Held D). s.entries) is.same ∙ none in
       record {
@@ -70,7 +70,7 @@ module _ {D : Type 0} (mean : DiskMeaning D) (first store : Held D) where
         count = is.count;
       }
 
-  pub shorter : (old : Shown) (done : Done D) (new : Shown) (before after status : ℕ) → IsCompactionOf mean.moment mean.since mean.faults first (Ok tt) store → before ≡ side_of first → after ≡ side_of store
+  pub shorter : (old : Shown) (done : Done D) (new : Shown) (before after status : ℕ) → IsCompactionOf mean.moment mean.since mean.images mean.faults first (Ok tt) store → before ≡ side_of first → after ≡ side_of store
       → LeavesStore status store done → EndsWith old (sides_line before after) new status → Shortened mean first old done new
   shorter old done new before after status is at_first at_last leaves says = record {
     store = store;
@@ -79,7 +79,7 @@ module _ {D : Type 0} (mean : DiskMeaning D) (first store : Held D) where
     says = rw (leaves.status_is, ← at_first, ← at_last) says;
   }
 
-  pub not_shorter : (old : Shown) (done : Done D) (new : Shown) (fault : StepFault) (status : ℕ) → IsCompactionOf mean.moment mean.since mean.faults first (Err fault) store
+  pub not_shorter : (old : Shown) (done : Done D) (new : Shown) (fault : StepFault) (status : ℕ) → IsCompactionOf mean.moment mean.since mean.images mean.faults first (Err fault) store
       → LeavesStore status store done → status ≡ stopped_status fault → GivesOr old (stopped_line fault) new → Unshortened mean first old done new
   not_shorter old done new fault status is leaves status_is says = record { fault = fault; store = store; compacted = is; leaves = stopped_store done fault store status leaves status_is; says = says }
 

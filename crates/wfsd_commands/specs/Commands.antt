@@ -59,10 +59,10 @@ pub data Checks {D : Type 0} (mean : DiskMeaning D) (disks : Pair D) (old : Ends
 abbrev pub side_of : {D : Type 0} → Held D → ℕ
 side_of store = length_after store.schema store.side store.opening store.entries
 
--- The journal was made shorter: its lengths before and after stand in the line.
+-- The journal was made just the checkpoint, on the other side, with the next generation: its lengths before and after stand in the line.
 pub record Shortened {D : Type 0} (mean : DiskMeaning D) (first : Held D) (old : Shown) (done : Done D) (new : Shown) : Type 0 where
   pub store : Held D
-  pub compacted : IsCompactionOf mean.moment mean.since mean.faults first (Ok tt) store
+  pub compacted : IsCompactionOf mean.moment mean.since mean.images mean.faults first (Ok tt) store
   pub leaves : LeavesStore done.status store done
   pub says : EndsWith old (sides_line (side_of first) (side_of store)) new done.status
 
@@ -70,7 +70,7 @@ pub record Shortened {D : Type 0} (mean : DiskMeaning D) (first : Held D) (old :
 pub record Unshortened {D : Type 0} (mean : DiskMeaning D) (first : Held D) (old : Shown) (done : Done D) (new : Shown) : Type 0 where
   pub fault : StepFault
   pub store : Held D
-  pub compacted : IsCompactionOf mean.moment mean.since mean.faults first (Err fault) store
+  pub compacted : IsCompactionOf mean.moment mean.since mean.images mean.faults first (Err fault) store
   pub leaves : LeavesStore (stopped_status fault) store done
   pub says : GivesOr old (stopped_line fault) new
 

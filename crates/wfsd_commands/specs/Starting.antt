@@ -4,6 +4,7 @@ use Rattle.disk_core.specs.declared.disk.Disk.{Ghosts as DiskMeaning}
 use Rattle.disk_core.specs.declared.pair.Pair.{Pair}
 use Rattle.durable_journal.specs.declared.fault.OpenFault.{OpenFault}
 use Rattle.durable_journal.specs.declared.fault.OpenFault.TheVariants.{DiskFault}
+use Rattle.durable_journal.specs.Current.{HoldsSome}
 use Rattle.durable_journal.specs.Opened.{IsOfBytes, IsRefusal}
 use Rattle.durable_journal.specs.Standing.{ComeTo, SaysOpened}
 use Rattle.feature_journal.specs.Faults.{NoneFell, OneRose}
@@ -57,11 +58,13 @@ pub record OpensSafely {D : Type 0} (mean : DiskMeaning D) (schema : Schema) (ol
   pub first : OfShown mean old (λ a b. Unmade a → Unmade b → LeavesAfterSync mean (λ x y. Nothing x y ⊎ SaysOpened schema (nothing (length schema.types)) x y) old new)
   pub count : NoneFell mean.faults old new
 
--- A store was started: its opening is the next one of what the two files come to, and it has no history.
+-- A store was started: its opening is the next one of what the two files come to, and it has no history. Its disks hold a list on the side that it
+-- counts as the current one, with its generation.
 pub record IsStarted {D : Type 0} (mean : DiskMeaning D) (schema : Schema) (old : Pair D) (store : Held D) : Type 0 where
   pub limits : AreStated store.limits
   pub begun : HasBegun schema store.limits store
   pub opens : OfShown mean old (λ a b. OpensOn schema (outcome_on schema a b) store.opening)
+  pub current : HoldsSome mean.images store.current store.disks
   pub safely : OpensSafely mean schema old store.disks
 
 -- A store was not started: a refusal of the bytes is the first that they meet, and nothing was written; a disk's fault has its cause.

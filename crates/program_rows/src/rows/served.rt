@@ -125,7 +125,7 @@ static READS: [Row; 4] = [
     ),
 ];
 
-static STORED: [Row; 6] = [
+static STORED: [Row; 8] = [
     (
         "POST /wfs HTTP/1.1\r\nHost: h\r\nContent-Length: 551\r\n\r\n<wfs:CreateStoredQuery service=\"WFS\" version=\"2.0.2\" xmlns:wfs=\"http://www.opengis.net/wfs/2.0\" xmlns:fes=\"http://www.opengis.net/fes/2.0\" xmlns:m=\"http://example.org/marks\"><wfs:StoredQueryDefinition id=\"urn:x:by\"><wfs:Parameter name=\"l\" type=\"xs:string\"/><wfs:QueryExpressionText><wfs:Query typeNames=\"m:Mark\"><fes:Filter><fes:PropertyIsEqualTo><fes:ValueReference>label</fes:ValueReference><fes:Literal>${l}</fes:Literal></fes:PropertyIsEqualTo></fes:Filter></wfs:Query></wfs:QueryExpressionText></wfs:StoredQueryDefinition></wfs:CreateStoredQuery>",
         "200 OK",
@@ -151,6 +151,18 @@ static STORED: [Row; 6] = [
         "<?xml version=\"1.0\" encoding=\"UTF-8\"?><ows:ExceptionReport xmlns:ows=\"http://www.opengis.net/ows/1.1\" version=\"2.0.2\"><ows:Exception exceptionCode=\"MissingParameterValue\" locator=\"l\"><ows:ExceptionText>value missing</ows:ExceptionText></ows:Exception></ows:ExceptionReport>",
     ),
     (
+        "GET /wfs?service=WFS&request=ListStoredQueries HTTP/1.1\r\nHost: h\r\n\r\n",
+        "200 OK",
+        "text/xml",
+        "<?xml version=\"1.0\" encoding=\"UTF-8\"?><wfs:ListStoredQueriesResponse xmlns:wfs=\"http://www.opengis.net/wfs/2.0\" xmlns:m=\"http://example.org/marks\"><wfs:StoredQuery id=\"urn:ogc:def:query:OGC-WFS::GetFeatureById\"><wfs:ReturnFeatureType>m:Mark</wfs:ReturnFeatureType><wfs:ReturnFeatureType>m:Field</wfs:ReturnFeatureType><wfs:ReturnFeatureType>m:Way</wfs:ReturnFeatureType></wfs:StoredQuery><wfs:StoredQuery id=\"urn:x:by\"><wfs:ReturnFeatureType>m:Mark</wfs:ReturnFeatureType></wfs:StoredQuery></wfs:ListStoredQueriesResponse>",
+    ),
+    (
+        "GET /wfs?service=WFS&request=DescribeStoredQueries&storedQuery_id=urn:x:by HTTP/1.1\r\nHost: h\r\n\r\n",
+        "200 OK",
+        "text/xml",
+        "<?xml version=\"1.0\" encoding=\"UTF-8\"?><wfs:DescribeStoredQueriesResponse xmlns:wfs=\"http://www.opengis.net/wfs/2.0\" xmlns:m=\"http://example.org/marks\" xmlns:xs=\"http://www.w3.org/2001/XMLSchema\"><wfs:StoredQueryDescription id=\"urn:x:by\"><wfs:Parameter name=\"l\" type=\"xs:string\"/><wfs:QueryExpressionText returnFeatureTypes=\"m:Mark\" language=\"urn:ogc:def:queryLanguage:OGC-WFS::WFS_QueryExpression\" isPrivate=\"false\"><wfs:Query xmlns:wfs=\"http://www.opengis.net/wfs/2.0\" xmlns:fes=\"http://www.opengis.net/fes/2.0\" xmlns:gml=\"http://www.opengis.net/gml/3.2\" xmlns:m=\"http://example.org/marks\" typeNames=\"m:Mark\"><fes:Filter><fes:PropertyIsEqualTo><fes:ValueReference>m:label</fes:ValueReference><fes:Literal>${l}</fes:Literal></fes:PropertyIsEqualTo></fes:Filter></wfs:Query></wfs:QueryExpressionText></wfs:StoredQueryDescription></wfs:DescribeStoredQueriesResponse>",
+    ),
+    (
         "GET /wfs?service=WFS&request=DropStoredQuery&storedQuery_id=urn:x:by HTTP/1.1\r\nHost: h\r\n\r\n",
         "200 OK",
         "text/xml",
@@ -164,7 +176,7 @@ static STORED: [Row; 6] = [
     ),
 ];
 
-static SERVICE: [Row; 3] = [
+static SERVICE: [Row; 4] = [
     (
         "GET /wfs?service=WFS&request=GetCapabilities HTTP/1.1\r\nHost: h\r\n\r\n",
         "200 OK",
@@ -183,12 +195,18 @@ static SERVICE: [Row; 3] = [
         "text/xml",
         "<?xml version=\"1.0\" encoding=\"UTF-8\"?><wfs:TransactionResponse xmlns:wfs=\"http://www.opengis.net/wfs/2.0\" xmlns:fes=\"http://www.opengis.net/fes/2.0\" version=\"2.0.2\"><wfs:TransactionSummary><wfs:totalInserted>2</wfs:totalInserted><wfs:totalUpdated>0</wfs:totalUpdated><wfs:totalReplaced>0</wfs:totalReplaced><wfs:totalDeleted>0</wfs:totalDeleted></wfs:TransactionSummary><wfs:InsertResults><wfs:Feature><fes:ResourceId rid=\"Mark.3\"/></wfs:Feature><wfs:Feature><fes:ResourceId rid=\"Mark.4\"/></wfs:Feature></wfs:InsertResults></wfs:TransactionResponse>",
     ),
+    (
+        "GET /wfs?service=WFS&request=GetFeatureWithLock&typeNames=Mark&startIndex=2&expiry=9 HTTP/1.1\r\nHost: h\r\n\r\n",
+        "200 OK",
+        "application/gml+xml; version=3.2",
+        "<?xml version=\"1.0\" encoding=\"UTF-8\"?><wfs:FeatureCollection xmlns:wfs=\"http://www.opengis.net/wfs/2.0\" xmlns:gml=\"http://www.opengis.net/gml/3.2\" xmlns:m=\"http://example.org/marks\" timeStamp=\"1970-01-01T00:20:16Z\" numberMatched=\"4\" numberReturned=\"2\" lockId=\"lock-1-4\"><wfs:member><m:Mark gml:id=\"Mark.3\"><m:label>A</m:label></m:Mark></wfs:member><wfs:member><m:Mark gml:id=\"Mark.4\"><m:label>B</m:label></m:Mark></wfs:member></wfs:FeatureCollection>",
+    ),
 ];
 
 // The moments at which the messages come, in seconds.
-static MOMENTS: [u64; 27] = [
+static MOMENTS: [u64; 30] = [
     1000, 1000, 1000, 1010, 1050, 1060, 1060, 1060, 1109, 1208, 1209, 1210, 1211, 1211, 1212, 1212,
-    1212, 1212, 1213, 1213, 1213, 1213, 1213, 1213, 1214, 1214, 1215,
+    1212, 1212, 1213, 1213, 1213, 1213, 1213, 1213, 1213, 1213, 1214, 1214, 1215, 1216,
 ];
 
 fn add_inputs(text: &mut String, rows: &[Row]) -> Mem<()> {

@@ -1,8 +1,9 @@
 use Rattle.std.proofs.Common.{◌≡◌, ℕ, None, List, ◌∙◌, sym, ap, subst}
 use Rattle.std.specs.Prelude.{slice_set}
 use Rattle.feature_versions.specs.declared.rows.Row.{Row}
-use Rattle.feature_versions.specs.Rows.{AreRows, live}
+use Rattle.feature_versions.specs.Rows.{AreGone, AreRows, live}
 use Rattle.feature_versions.proofs.Placing.{IsFirst}
+use Rattle.feature_versions.proofs.Fronts.{gone_without}
 use Rattle.feature_versions.proofs.Standing.{found_row, found_nowhere, laid_there, laid_nowhere}
 use Rattle.feature_versions.proofs.rows.take_out.Goals as goal
 
@@ -42,3 +43,8 @@ returns-clause-rows c =
     let has = rw c.as_slice-2.ensures.value at (sym c.is_at.ensures.value ∙ c.if-not-is_at.false) in
     subst (λ (row : Row). AreRows c.args.id.kind (slice_set c.args.rows.now.items c.place_of-place.result row)) (sym c.replace.ensures.after)
     (laid_there c.args.rows.now.items c.args.id c.place_of-place.result None c.requires first has tt).rows
+
+pub returns-clause-gone : goal.returns-clause-gone
+returns-clause-gone c n gone =
+    subst (λ (row : Row). AreGone n (slice_set c.args.rows.now.items c.place_of-place.result row)) (sym c.replace.ensures.after)
+    (gone_without c.args.rows.now.items n c.place_of-place.result c.args.id.number gone)

@@ -1,5 +1,6 @@
 -- What the bodies come to is kept well, and so is the store that begins on it.
 use Rattle.std.proofs.Common.{◌≤◌, ◌∙◌, ℕ, All, None, refl, sym, ap, subst}
+use Rattle.durable_journal.proofs.Shorter.{just_held}
 use Rattle.wfs_model.specs.Playable.{most_number}
 use Rattle.wfs_model.specs.State.{Durable, opened}
 use Rattle.wfs_store.specs.declared.course.Course.{Course}
@@ -22,3 +23,8 @@ invariant_of-result g c =
     begun_store g.D.Disk.images course c.args.opened.journal c.args.opened.bodies c.side_length-side.result at.kept
     (rw schema at.come) (rw schema restorable.well) state c.new.ensures.items refl refl (rw schema c.requires.signature) (rw schema c.requires.rules)
     (rw (schema, ← at.now) at.rests) at.limit_is c.side_length-side.ensures
+
+pub returns-clause-current : goal.returns-clause-current
+returns-clause-current g c =
+    let at = c.requires.opened.rests in
+    (at.bodies, just_held g.D.Disk.images at.bodies c.args.opened.journal at.rests)

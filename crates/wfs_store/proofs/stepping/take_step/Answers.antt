@@ -39,7 +39,7 @@ returns-in-Ok-clause-step g c bodies side store =
     let goes = c.write.ensures.goes c.args.course.now.state.schema (durable c.args.course.now.state.state) store.keeps there in
     let ended = c.enter.ensures in
     done_step g.D.Disk.moment g.D.Disk.since g.D.Disk.images g.D.Disk.faults g.met.D.Disk.counts g.met.D.Disk.only c.args.course.now c.make_ready.new.course c.args.journal.now bodies side c.args.begun.now c.args.tally.now c.args.entry store c.make_ready.ensures.same c.in_ok-ready.ready c.in_ok-ready.copy at.taken c.enter.new.course c.write.new.journal c.write.new.begun c.enter.result full goes
-    c.in-Ok.ensures.done (λ none. (c.write.ensures.unwritten none).1) c.write.ensures.count ended.entries ended.step ended.schema ended.limits
+    c.in-Ok.ensures.done (λ none. (c.write.ensures.unwritten none).1) c.write.ensures.count ended.entries ended.step ended.schema ended.limits c.write.ensures.current
 
 pub returns-in-Err-clause-store : goal.returns-in-Err-clause-store
 returns-in-Err-clause-store g c bodies side store =
@@ -61,4 +61,4 @@ returns-in-Err-clause-step g c bodies side store =
     let there = writable_there g.D.Disk.moment g.D.Disk.since g.D.Disk.images g.D.Disk.faults g.met.D.Disk.counts g.met.D.Disk.only c.args.course.now c.make_ready.new.course c.args.journal.now bodies side c.args.begun.now c.args.tally.now c.args.entry store c.make_ready.ensures.same c.in_ok-ready.ready c.in_ok-ready.copy at.taken c.deref.result.now writable in
     let goes = c.write.ensures.goes c.args.course.now.state.schema (durable c.args.course.now.state.state) store.keeps there in
     failed_step g.D.Disk.moment g.D.Disk.since g.D.Disk.images g.D.Disk.faults g.met.D.Disk.counts g.met.D.Disk.only c.args.course.now c.make_ready.new.course c.args.journal.now bodies side c.args.begun.now c.args.tally.now c.args.entry store c.make_ready.ensures.same c.in_ok-ready.ready c.in_ok-ready.copy at.taken c.write.new.journal c.write.new.begun c.raise.new.tally full goes
-    c.in-Err.ensures.fault (λ none. let e = (c.in-Err.ensures.unwritten none).0 in absurd cc) c.raise.ensures c.write.ensures.count c.in-Err.ensures.cause
+    c.in-Err.ensures.fault (λ none. let e = (c.in-Err.ensures.unwritten none).0 in absurd cc) c.raise.ensures c.write.ensures.count c.in-Err.ensures.cause c.write.ensures.current

@@ -17,13 +17,13 @@ loop-row-init c =
     record {
       kind = c.in_ok-reserve.ensures.same.kind ∙ c.new-layer.ensures.kind ∙ ap (λ l. l.kind) c.self.view_is;
       features = c.in_ok-reserve.ensures.same.features ∙ c.new-layer.ensures.features;
-      rows = omega (arith, all, c.self.invariant.counted, c.in_ok-reserve.ensures.rows);
+      rows = omega (arith, all, c.self.invariant.layer.counted, c.in_ok-reserve.ensures.rows);
       places = omega (arith, boxes, c.in_ok-reserve.ensures.places);
     }
 
 pub put_copy-requires-clause-last : goal.put_copy-requires-clause-last
 put_copy-requires-clause-last c =
-    let are : AreRows c.self.inside.kind c.as_slice-rows.result.now = subst (AreRows c.self.inside.kind) (sym c.as_slice-rows.ensures.value) c.self.invariant.are in
+    let are : AreRows c.self.inside.kind c.as_slice-rows.result.now = subst (AreRows c.self.inside.kind) (sym c.as_slice-rows.ensures.value) c.self.invariant.layer.are in
     let kind : c.self.inside.kind ≡ c.loop-row.layer.kind = ap (λ l. l.kind) c.self.view_is ∙ sym c.loop-row.invariant.kind in
     let before = before_at c.as_slice-rows.result.now c.loop-row.row-index c.row-item.result c.loop-row-test.true c.row-item.is c.self.inside.kind are in
     subst (λ (k : ℕ). AllBefore (record { kind = k; number = c.row-item.result.number }) c.loop-row.layer.features) kind

@@ -15,7 +15,7 @@ returns-clause-whole c =
     let up : IsUpright c.args.area.now = rw (← c.area.view_is) c.area.invariant in
     rw (← c.self.view_is) (
     IfOk-weaker c.near.result (λ ids. All (IsMet c.args.area.now ids) c.self.inside.grid.pairs) (λ ids. HasAllNear c.self.inside.kind c.args.area.now (live c.self.inside.rows.items) ids)
-    (λ ids met. found_all c.self.inside.kind c.args.area.now c.self.inside.grid.pairs (live c.self.inside.rows.items) ids c.self.invariant.boxes c.self.invariant.boxed up met) c.near.ensures.meeting
+    (λ ids met. found_all c.self.inside.kind c.args.area.now c.self.inside.grid.pairs (live c.self.inside.rows.items) ids c.self.invariant.layer.boxes c.self.invariant.layer.boxed up met) c.near.ensures.meeting
     )
 
 pub returns-clause-once : goal.returns-clause-once
@@ -25,5 +25,5 @@ pub returns-clause-few : goal.returns-clause-few
 returns-clause-few c =
     rw (← c.self.view_is) (
     IfOk-weaker c.near.result (AreNear c.args.area.now c.self.inside.grid.pairs) (λ ids. length ids ≤ most_near (live c.self.inside.rows.items) c.self.inside.kind c.args.area.now)
-    (λ ids near. found_few c.self.inside.kind c.args.area.now c.self.inside.grid.pairs (live c.self.inside.rows.items) ids c.self.invariant.boxes (live_kind c.self.inside.kind c.self.inside.rows.items c.self.invariant.are.own) near) c.near.ensures.exact
+    (λ ids near. found_few c.self.inside.kind c.args.area.now c.self.inside.grid.pairs (live c.self.inside.rows.items) ids c.self.invariant.layer.boxes (live_kind c.self.inside.kind c.self.inside.rows.items c.self.invariant.layer.are.own) near) c.near.ensures.exact
     )

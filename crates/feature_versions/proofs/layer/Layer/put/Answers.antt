@@ -24,27 +24,29 @@ one_boxed f boxed = All-cons AreBoxed f [] boxed (All-nil AreBoxed)
 
 pub displace-requires : goal.displace-requires
 displace-requires c = λ p.
-    let held = found_weight c.self.inside.kind c.self.inside.rows.items c.self.inside.count c.self.inside.grid.pairs c.args.feature.id c.in-Some.old c.self.invariant (sym c.put.ensures.was ∙ c.in-Some.is) p in
+    let held = found_weight c.self.inside.kind c.self.inside.rows.items c.self.inside.count c.self.inside.grid.pairs c.args.feature.id c.in-Some.old c.self.invariant.layer (sym c.put-old.ensures.was ∙ c.in-Some.is) p in
     let all = ap (times p) c.place.ensures.pairs ∙ times-append p c.self.inside.grid.pairs (placed_in c.args.feature) in
     omega (arith, held, all)
 
 pub invariant_of-self : goal.invariant_of-self
 invariant_of-self c =
     let kind : c.args.feature.id.kind ≡ c.self.inside.kind = c.requires.kind ∙ sym (ap (λ l. l.kind) c.self.view_is) in
-    let found = sym c.put.ensures.was ∙ c.in-Some.is in
-    layer_laid c.self.inside.kind c.self.inside.rows.items c.put.new.rows.items c.self.inside.count c.self.inside.count c.self.inside.grid.pairs c.displace.new.grid.pairs c.args.feature.id (Some c.args.feature)
-    c.self.invariant c.put.ensures.items (subst (λ (k : ℕ). AreRows k c.put.new.rows.items) kind c.put.ensures.rows) (one_boxed c.args.feature c.place.ensures.boxed)
+    let found = sym c.put-old.ensures.was ∙ c.in-Some.is in
+    let layer = layer_laid c.self.inside.kind c.self.inside.rows.items c.put-old.new.rows.items c.self.inside.count c.self.inside.count c.self.inside.grid.pairs c.displace.new.grid.pairs c.args.feature.id (Some c.args.feature)
+    c.self.invariant.layer c.put-old.ensures.items (subst (λ (k : ℕ). AreRows k c.put-old.new.rows.items) kind c.put-old.ensures.rows) (one_boxed c.args.feature c.place.ensures.boxed)
     (turned c.self.inside.grid.pairs c.place.new.grid.pairs c.displace.new.grid.pairs c.args.feature _ c.in-Some.old c.place.ensures.pairs found c.displace.ensures.pairs)
-    (ap (λ (o : Option Feature). c.self.inside.count + length (option_to_list o)) found)
+    (ap (λ (o : Option Feature). c.self.inside.count + length (option_to_list o)) found) in
+    record { layer = layer; gone = rw c.min-self-inside.ensures (c.put-old.ensures.gone c.self.inside.first c.self.invariant.gone) }
 
 pub overflow_add-self : goal.overflow_add-self
-overflow_add-self c = omega (arith, c.self.invariant.counted, live_short c.self.inside.rows.items)
+overflow_add-self c = omega (arith, c.self.invariant.layer.counted, live_short c.self.inside.rows.items)
 
 pub invariant_of-self-in-None : goal.invariant_of-self-in-None
 invariant_of-self-in-None c =
     let kind : c.args.feature.id.kind ≡ c.self.inside.kind = c.requires.kind ∙ sym (ap (λ l. l.kind) c.self.view_is) in
-    let none = sym c.put.ensures.was ∙ c.in-None.is in
-    layer_laid c.self.inside.kind c.self.inside.rows.items c.put.new.rows.items c.self.inside.count (c.self.inside.count + 1) c.self.inside.grid.pairs c.place.new.grid.pairs c.args.feature.id (Some c.args.feature)
-    c.self.invariant c.put.ensures.items (subst (λ (k : ℕ). AreRows k c.put.new.rows.items) kind c.put.ensures.rows) (one_boxed c.args.feature c.place.ensures.boxed)
+    let none = sym c.put-old.ensures.was ∙ c.in-None.is in
+    let layer = layer_laid c.self.inside.kind c.self.inside.rows.items c.put-old.new.rows.items c.self.inside.count (c.self.inside.count + 1) c.self.inside.grid.pairs c.place.new.grid.pairs c.args.feature.id (Some c.args.feature)
+    c.self.invariant.layer c.put-old.ensures.items (subst (λ (k : ℕ). AreRows k c.put-old.new.rows.items) kind c.put-old.ensures.rows) (one_boxed c.args.feature c.place.ensures.boxed)
     (added c.self.inside.grid.pairs c.place.new.grid.pairs c.args.feature _ c.place.ensures.pairs none)
-    (let no_one = ap (λ (o : Option Feature). length (option_to_list o)) none in omega (arith, no_one))
+    (let no_one = ap (λ (o : Option Feature). length (option_to_list o)) none in omega (arith, no_one)) in
+    record { layer = layer; gone = rw c.min-self-inside.ensures (c.put-old.ensures.gone c.self.inside.first c.self.invariant.gone) }
