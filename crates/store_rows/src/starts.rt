@@ -39,14 +39,3 @@ pub fn started<D: Disk>(
         Err((disks, _)) => Err(disks),
     }
 }
-
-// ---- threads
-
-fn may_move<T: Send>(value: T) -> T {
-    value
-}
-
-// A store may be moved between threads where its disks may: the check takes this.
-fn moved<D: Disk + Send>(store: Store<D>) -> Store<D> {
-    may_move(store)
-}
