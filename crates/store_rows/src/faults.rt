@@ -1,0 +1,92 @@
+//! Disks that fail in a step: nothing is there then, and the same step again is answered as if it were the first.
+
+ghost use Rattle.feature_schema.specs.Rules.{KeepsRules};
+
+use crate::disks::pair;
+use crate::requests::schema;
+use crate::runs::{ended_so, run_on};
+use crate::sides::{EMPTY, INSERTED};
+use crate::steps::{Ask, Stand, Step, Told};
+use feature_values::Schema;
+use std::alloc::Global;
+use std::test::Fail;
+use wfs_ends::Mem;
+
+// Nothing is there, and no entry.
+const NOTHING: Stand = Stand {
+    marks: 0,
+    entries: 0,
+    changed: false,
+};
+
+// A lock on nothing is an entry of its own. It asks no disk, so it ends nothing that was begun.
+const LOCKED: Step = (
+    Ask::Lock,
+    Told::Locked(None),
+    Stand {
+        marks: 0,
+        entries: 1,
+        changed: false,
+    },
+);
+
+// The same insertion again has the first number.
+const INSERTED_THEN: Step = (
+    Ask::Insert("A"),
+    Told::Inserted(1, 1),
+    Stand {
+        marks: 1,
+        entries: 2,
+        changed: true,
+    },
+);
+
+const FAULT: Step = (Ask::Insert("A"), Told::Fault, NOTHING);
+
+/// The calls of side a's disk that fail, and the steps, on empty files. Side a then holds Mark.1 as if no call had failed.
+type Fault = (&'static [u64], &'static [Step]);
+
+// The start makes the calls 0 to 13 of side a's disk (`stops` says which). An insertion writes its record behind the closed gate by call 14 and
+// syncs, opens the gate by call 16 and syncs. Where one of the last two fails the record is begun, and the next insertion repairs it first:
+// 0 at that gate by call 18, or 17 where call 16 was the last, and a sync.
+static FAULTS: [Fault; 7] = [
+    (&[14], &[FAULT, LOCKED, INSERTED_THEN]),
+    (&[15], &[FAULT, LOCKED, INSERTED_THEN]),
+    (&[16], &[FAULT, LOCKED, INSERTED_THEN]),
+    // the second sync
+    (&[17], &[FAULT, LOCKED, INSERTED_THEN]),
+    // and then a call of the repair
+    (&[16, 17], &[FAULT, FAULT, LOCKED, INSERTED_THEN]),
+    (&[17, 18], &[FAULT, FAULT, LOCKED, INSERTED_THEN]),
+    (&[17, 19], &[FAULT, FAULT, LOCKED, INSERTED_THEN]),
+];
+
+fn fails_so(alloc: Global, schema: &Schema, fault: &Fault) -> Mem<bool>
+    requires { KeepsRules schema.now }
+{
+    let (calls, steps) = *fault;
+    let disks = pair(alloc, EMPTY, calls)?;
+    Ok(ended_so(run_on(alloc, disks, schema, 9, steps), INSERTED))
+}
+
+fn first_other(alloc: Global, schema: &Schema) -> Mem<Option<usize>>
+    requires { KeepsRules schema.now }
+{
+    for (i, fault) in FAULTS.iter().enumerate() {
+        if !fails_so(alloc, schema, fault)? {
+            return Ok(Some(i));
+        }
+    }
+    Ok(None)
+}
+
+fn first_wrong(alloc: Global) -> Mem<Option<usize>> {
+    let schema = schema(alloc)?;
+    first_other(alloc, &schema)
+}
+
+#[test]
+fn a_fault_leaves_nothing(rt: HostRuntime) -> Result<(), Fail> {
+    assert_eq!(rt; first_wrong(rt.alloc()), Ok(None));
+    Ok(())
+}

@@ -1,0 +1,23 @@
+//! Rows of the store: what its steps are answered, what its two files hold, and what the next run finds after a fault or a stop.
+#![tactic(auto)]
+
+#[cfg(test)]
+mod disks;
+#[cfg(test)]
+mod faults;
+#[cfg(test)]
+mod pieces;
+#[cfg(test)]
+mod requests;
+#[cfg(test)]
+mod runs;
+#[cfg(test)]
+mod shorter;
+#[cfg(test)]
+mod sides;
+#[cfg(test)]
+mod starts;
+#[cfg(test)]
+mod steps;
+#[cfg(test)]
+mod stops;
