@@ -25,6 +25,9 @@ store_fault = codes "wfsd: store fault\n"
 abbrev pub full : List ℕ
 full = codes "wfsd: full\n"
 
+abbrev pub cannot_listen : List ℕ
+cannot_listen = codes "wfsd: cannot listen\n"
+
 -- a fault of a schema by its name, and what it names
 abbrev pub fault_text : SchemaFault → List ℕ
 fault_text NotToml = codes "NotToml"
@@ -51,6 +54,10 @@ unfoldable pub not_of_schema : ℕ → List ℕ
 not_of_schema number = joined (codes "wfsd: not of this schema: " ∷ decimal number ∷ codes "\n" ∷ [])
 
 -- ---- lines that say what was asked for
+
+-- links are served from now on
+abbrev pub serving : List ℕ
+serving = codes "serving\n"
 
 -- how much of each a journal holds
 unfoldable pub counts_line : (types features queries openings : ℕ) → List ℕ

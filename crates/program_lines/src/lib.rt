@@ -5,7 +5,7 @@ mod refusals;
 mod summaries;
 
 pub use refusals::{say, say_place, say_record, say_refused};
-pub use summaries::{put_counts, put_rounds, put_sides};
+pub use summaries::{put_counts, put_rounds, put_serving, put_sides};
 
 #[cfg(test)]
 mod tests;

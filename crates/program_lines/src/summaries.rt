@@ -2,10 +2,17 @@
 
 ghost use Rattle.std.specs.Prelude.{decimal, false};
 ghost use Rattle.wfs_ends.specs.Ends.{Shown, Writes};
-ghost use Rattle.program_lines.specs.Lines.{counts_line, rounds_line, sides_line};
+ghost use Rattle.program_lines.specs.Lines.{counts_line, rounds_line, serving, sides_line};
 
 use itoa::Buffer;
 use wfs_ends::{Sink, put_on};
+
+/// Says that links are served from now on.
+pub fn put_serving<S: Sink>(sink: &mut S) -> bool
+    ensures { Writes (record { shown = S.sink sink.old; failed = false }) serving (record { shown = S.sink sink.new; failed = result }) }
+{
+    put_on(sink, false, b"serving\n")
+}
 
 /// Says how many types, features, stored queries and openings a journal holds.
 pub fn put_counts<S: Sink>(

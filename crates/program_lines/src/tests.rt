@@ -1,12 +1,15 @@
 //! Each line as it is written out in the formats.
 
-use crate::{put_counts, put_rounds, put_sides, say_place, say_record, say_refused};
+use crate::{
+    put_counts, put_rounds, put_serving, put_sides, say_place, say_record, say_refused,
+};
 use feature_schema::SchemaFault;
 use std::alloc::Global;
 use wfs_ends::{Mem, MemSink, Text};
 
 #[derive(Clone, Copy, Debug, PartialEq, Eq)]
 enum Line {
+    Serving,
     Counts,
     Sides,
     Rounds,
@@ -15,7 +18,8 @@ enum Line {
     Refused,
 }
 
-static LINES: [(Line, &str); 6] = [
+static LINES: [(Line, &str); 7] = [
+    (Line::Serving, "serving\n"),
     (Line::Counts, "types 3 features 2 queries 0 openings 1\n"),
     (Line::Sides, "side 283 to 208 bytes\n"),
     (
@@ -29,6 +33,7 @@ static LINES: [(Line, &str); 6] = [
 
 fn write(sink: &mut MemSink, line: Line, name: Text) -> bool {
     match line {
+        Line::Serving => put_serving(sink),
         Line::Counts => put_counts(sink, 3, 2, 0, 1),
         Line::Sides => put_sides(sink, 283, 208),
         Line::Rounds => put_rounds(sink, 4, 9, 3, 4, 4),

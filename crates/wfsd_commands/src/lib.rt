@@ -15,7 +15,10 @@ mod statuses;
 
 pub use commands::{check_store, compact_store};
 pub use conversation::talk;
-pub use done::{Done, OUT_OF_MEMORY};
+pub use done::{DONE, Done, OUT_OF_MEMORY, WRITE_FAULT, leave_disks};
 pub use drill_command::{drill, drill_rounds};
+pub use load::{Unloaded, load_schema};
 pub use program::wfsd;
 pub use restart::start_again;
+pub use starting::{end_for_memory, end_for_words, end_unloaded, start_store};
+pub use statuses::say_unopened;

@@ -1,0 +1,4 @@
+pub mod Closing
+pub mod Filling
+pub mod Ranges
+pub mod Standing
