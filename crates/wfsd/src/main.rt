@@ -1,27 +1,53 @@
 //! `wfsd`: a Web Feature Service (OGC 09-025r2) whose answers are those of one serial history, which outlives the process.
 //!
-//! The real ends of the program: the files of a folder, the standard input and output, and the clock. All that it does by its words stands in
-//! `wfsd_commands`.
+//! The real ends of the program: the files of a folder, the standard input and output, the doors over TCP, and the clock. All that it does by its words stands in
+//! `wfsd_program`.
 #![tactic(auto)]
 
 use disk_core::{Disk, FileDisk, Pair};
+use service_doors::{Acceptor, Doors, TcpDoors};
 use std::alloc::Global;
 use std::env;
 use std::process::ExitCode;
+use std::sync::Wait;
+use std::thread::Threads;
 use wfs_ends::{
     Clock, InputFile, Mem, ReadEnd, RealClock, Sink, Source, StandardInput, StandardOutput, Text,
     WriteEnd,
 };
 use wfs_words::directory;
-use wfsd_commands::{OUT_OF_MEMORY, wfsd};
+use wfsd_commands::OUT_OF_MEMORY;
+use wfsd_program::wfsd;
 
 /// Makes the real ends, and leaves the rest to `wfsd`.
 fn main(rt: HostRuntime) -> ExitCode {
     let alloc = rt.alloc();
-    match words_given(&rt, alloc) {
-        Ok(words) => ExitCode::from(run(&rt, alloc, &words)),
-        Err(_) => ExitCode::from(OUT_OF_MEMORY),
-    }
+    let Ok(words) = words_given(&rt, alloc) else {
+        return ExitCode::from(OUT_OF_MEMORY);
+    };
+    let Ok(paths) = paths_in(alloc, directory(&words)) else {
+        return ExitCode::from(OUT_OF_MEMORY);
+    };
+    let Paths {
+        schema,
+        side_a,
+        side_b,
+    } = paths;
+    let disks = Pair {
+        a: FileDisk::of(&rt, side_a),
+        b: FileDisk::of(&rt, side_b),
+    };
+    ExitCode::from(status_of(
+        &rt,
+        alloc,
+        &words,
+        &mut ReadEnd::of(InputFile::of(&rt, schema)),
+        &mut ReadEnd::of(StandardInput::of(&rt)),
+        &mut WriteEnd::of(StandardOutput::of(&rt)),
+        disks,
+        &mut TcpDoors::of(&rt),
+        &mut RealClock::of(&rt),
+    ))
 }
 
 // The words that follow the program's name. Words that are no text are as none.
@@ -35,49 +61,35 @@ fn words_given(rt: &HostRuntime, alloc: Global) -> Mem<Vec<String>> {
     Ok(words)
 }
 
-// The status of what the words ask for.
-fn run(rt: &HostRuntime, alloc: Global, words: &[String]) -> u8 {
-    match paths_in(alloc, directory(words)) {
-        Ok(paths) => run_in(rt, alloc, words, paths),
-        Err(_) => OUT_OF_MEMORY,
-    }
-}
-
-// The same, in a folder.
-fn run_in(rt: &HostRuntime, alloc: Global, words: &[String], paths: Paths) -> u8 {
-    let Paths {
-        schema,
-        side_a,
-        side_b,
-    } = paths;
-    let disks = Pair {
-        a: FileDisk::of(rt, side_a),
-        b: FileDisk::of(rt, side_b),
-    };
-    status_of(
-        alloc,
-        words,
-        &mut ReadEnd::of(InputFile::of(rt, schema)),
-        &mut ReadEnd::of(StandardInput::of(rt)),
-        &mut WriteEnd::of(StandardOutput::of(rt)),
-        disks,
-        &mut RealClock::of(rt),
-    )
-}
-
-// The same, over its ends. What is left of the store goes here.
-fn status_of<Q: Source, I: Source, O: Sink, D: Disk + Drop, C: Clock>(
+// The status of what the words ask for. What is left of the store and of the workers goes here.
+fn status_of<
+    R: Threads + Wait + Sync,
+    Q: Source,
+    I: Source,
+    O: Sink,
+    D: Disk + Send + Drop,
+    A: Acceptor + Send + Drop,
+    G: Doors<Acceptor = A>,
+    C: Clock + Send + Drop,
+>(
+    rt: &R,
     alloc: Global,
     words: &[String],
     schema: &mut Q,
     input: &mut I,
     out: &mut O,
     disks: Pair<D>,
+    doors: &mut G,
     clock: &mut C,
-) -> u8 {
-    let done = wfsd(alloc, words, schema, input, out, disks, clock);
-    let status = done.status;
-    drop(done);
+) -> u8
+where
+    A::Link: Send,
+{
+    let run = wfsd(
+        rt, alloc, words, schema, input, out, disks, doors, clock,
+    );
+    let status = run.status;
+    drop(run);
     status
 }
 
