@@ -1,8 +1,6 @@
 //! Each line as it is written out in the formats.
 
-use crate::{
-    put_counts, put_rounds, put_serving, put_sides, say_place, say_record, say_refused,
-};
+use crate::{put_counts, put_rounds, put_serving, put_sides, say_place, say_record, say_refused};
 use feature_schema::SchemaFault;
 use std::alloc::Global;
 use wfs_ends::{Mem, MemSink, Text};

@@ -85,9 +85,7 @@ fn status_of<
 where
     A::Link: Send,
 {
-    let run = wfsd(
-        rt, alloc, words, schema, input, out, disks, doors, clock,
-    );
+    let run = wfsd(rt, alloc, words, schema, input, out, disks, doors, clock);
     let status = run.status;
     drop(run);
     status
