@@ -1,16 +1,19 @@
 //! Texts that are like a pattern.
 
-ghost use Rattle.std.specs.Prelude.{◌≡◌, ◌<◌, ◌+◌, [], ◌∷◌, length, drop, chars, Some, MatchOption, option_map, IfSome, false};
+ghost use Rattle.std.specs.Prelude.{◌≡◌, ◌<◌, ◌≤◌, ◌+◌, [], ◌∷◌, length, drop, chars, Some, MatchOption, option_map, IfSome, false};
 ghost use Rattle.std.specs.List.{list_any};
 ghost use Rattle.std.specs.Option.{option_copied};
 ghost use Rattle.fes_filter.specs.Like.{is_like, some_end};
 ghost use Rattle.fes_filter.specs.LikeFront.{is_many, after_part, front_of, shown, by_front, IsShorter};
+ghost use Rattle.fes_filter.specs.LikePlace.{letters, IsBeginOf, NoManyBefore};
 ghost use Rattle.fes_filter.specs.Truth.{passes, is_text_like};
 
 use crate::letters::{behind, count, split_first};
 use crate::pattern::LikePart;
-use crate::places::{from_longest_run, has_many, is_many, longest_run};
+use crate::places::{from_run, has_many, is_many, longest_run, write_run, LONG_BYTES, SHORT, SHORT_BYTES};
+use arrayvec::ArrayString;
 use feature_values::Value;
+use memchr::memmem::Finder;
 
 /// The text behind its first character, where the part stands for this one character.
 fn after_part(part: LikePart, text: &str) -> Option<&str>
@@ -90,18 +93,17 @@ fn last_piece<'a>(parts: &'a [LikePart], text: &'a str) -> Front<'a>
 }
 
 /// What is left behind the first place where the parts up to the next `Many` stand for the characters there. The first
-/// place is as good as any later one, so nobody has to come back to it.
-fn next_piece<'a>(parts: &'a [LikePart], text: &'a str) -> Front<'a>
+/// place is as good as any later one, so nobody has to come back to it. The run is one of theirs, from `start` on.
+fn piece_by_run<'a>(parts: &'a [LikePart], start: usize, run: &Finder<'_>, text: &'a str) -> Front<'a>
+    requires within { start ≤ length parts.now }
+    requires before { NoManyBefore parts.now start }
+    requires begins { IsBeginOf run.now (letters (drop start parts.now)) }
     ensures value { by_front (shown result) ≡ some_end (is_like parts.now) (chars text.now) }
     ensures shorter { IsShorter (length parts.now + length text.now) result }
 {
-    if !has_many(parts) {
-        return last_piece(parts, text);
-    }
-    let run = longest_run(parts);
     let mut rest = text;
     loop {
-        match from_longest_run(parts, run, rest) {
+        match from_run(parts, start, run, rest) {
             None => return Front::Unlike,
             Some(left) => rest = left,
         }
@@ -114,6 +116,46 @@ fn next_piece<'a>(parts: &'a [LikePart], text: &'a str) -> Front<'a>
             },
         }
     }
+}
+
+#[tactic(auto, using(std::proofs::lemmas::List::take_rest))]
+fn piece_by_short_run<'a>(parts: &'a [LikePart], start: usize, text: &'a str) -> Front<'a>
+    requires within { start ≤ length parts.now }
+    requires before { NoManyBefore parts.now start }
+    ensures value { by_front (shown result) ≡ some_end (is_like parts.now) (chars text.now) }
+    ensures shorter { IsShorter (length parts.now + length text.now) result }
+{
+    let mut run = ArrayString::<SHORT_BYTES>::new();
+    write_run(&parts[start..], &mut run);
+    piece_by_run(parts, start, &Finder::new(run.as_str().as_bytes()), text)
+}
+
+#[tactic(auto, using(std::proofs::lemmas::List::take_rest))]
+fn piece_by_long_run<'a>(parts: &'a [LikePart], start: usize, text: &'a str) -> Front<'a>
+    requires within { start ≤ length parts.now }
+    requires before { NoManyBefore parts.now start }
+    ensures value { by_front (shown result) ≡ some_end (is_like parts.now) (chars text.now) }
+    ensures shorter { IsShorter (length parts.now + length text.now) result }
+{
+    let mut run = ArrayString::<LONG_BYTES>::new();
+    write_run(&parts[start..], &mut run);
+    piece_by_run(parts, start, &Finder::new(run.as_str().as_bytes()), text)
+}
+
+/// What is left behind the first place for the parts up to the next `Many`, or behind the only one for the last parts. What
+/// the search for their longest run needs is made once.
+fn next_piece<'a>(parts: &'a [LikePart], text: &'a str) -> Front<'a>
+    ensures value { by_front (shown result) ≡ some_end (is_like parts.now) (chars text.now) }
+    ensures shorter { IsShorter (length parts.now + length text.now) result }
+{
+    if !has_many(parts) {
+        return last_piece(parts, text);
+    }
+    let run = longest_run(parts);
+    if run.length > SHORT {
+        return piece_by_long_run(parts, run.start, text);
+    }
+    piece_by_short_run(parts, run.start, text)
 }
 
 /// Whether some end of the text is like the pattern, piece by piece.

@@ -1,24 +1,24 @@
 //! Where in a text the parts of a pattern up to the next `Many` can stand.
 
-ghost use Rattle.std.specs.Prelude.{◌≡◌, ◌≤◌, ◌++◌, ℕ, List, [], false, length, drop, chars, encode_utf8_all, MatchOption};
+ghost use Rattle.std.specs.Prelude.{◌≡◌, ◌≤◌, [], false, length, drop, chars, MatchOption};
 ghost use Rattle.std.specs.List.{list_any};
 ghost use Rattle.fes_filter.specs.Like.{is_like, some_end};
 ghost use Rattle.fes_filter.specs.LikeFront.{is_many};
-ghost use Rattle.fes_filter.specs.LikePlace.{letters, NoManyBefore, IsLeft};
+ghost use Rattle.fes_filter.specs.LikePlace.{letters, IsBeginOf, NoManyBefore, IsLeft};
 
 use crate::letters::{behind, count};
 use crate::pattern::LikePart;
 use arrayvec::ArrayString;
-use memchr::memmem;
+use memchr::memmem::Finder;
 
 /// A short run has at most so many characters.
-const SHORT: usize = 16;
+pub const SHORT: usize = 16;
 
 /// The room for the bytes of a short run.
-const SHORT_BYTES: usize = 64;
+pub const SHORT_BYTES: usize = 64;
 
 /// The room for the bytes of a long run: a text of a feature has at most 4,096 characters, of at most four bytes each.
-const LONG_BYTES: usize = 16_384;
+pub const LONG_BYTES: usize = 16_384;
 
 pub fn is_many(part: LikePart) -> bool
     ensures { result ≡ is_many part }
@@ -68,9 +68,9 @@ pub fn longest_run(parts: &[LikePart]) -> Run
 }
 
 /// Writes the characters at the beginning of the parts, as many as there is room for.
-fn write_run<const CAP: usize>(parts: &[LikePart], run: &mut ArrayString<CAP>)
+pub fn write_run<const CAP: usize>(parts: &[LikePart], run: &mut ArrayString<CAP>)
     requires { run.old.bytes ≡ [] }
-    ensures { (more : List ℕ) × (encode_utf8_all (letters parts.now) ≡ run.new.bytes ++ more) }
+    ensures { IsBeginOf run.new.bytes (letters parts.now) }
 {
     for part in parts {
         match *part {
@@ -84,16 +84,16 @@ fn write_run<const CAP: usize>(parts: &[LikePart], run: &mut ArrayString<CAP>)
     }
 }
 
-/// What is left of a text from the first place on where the characters of the run, with which the parts from `start` on
-/// begin, stand as far behind it as they have to.
-fn from_run<'a>(parts: &[LikePart], start: usize, run: &str, text: &'a str) -> Option<&'a str>
+/// What is left of a text from the first place on where the run, with which the parts from `start` on begin, stands as far
+/// behind it as it has to. `None`: no end of the text is like the pattern.
+pub fn from_run<'a>(parts: &[LikePart], start: usize, run: &Finder<'_>, text: &'a str) -> Option<&'a str>
     requires within { start ≤ length parts.now }
     requires before { NoManyBefore parts.now start }
-    requires begins { (more : List ℕ) × (encode_utf8_all (letters (drop start parts.now)) ≡ run.now ++ more) }
+    requires begins { IsBeginOf run.now (letters (drop start parts.now)) }
     ensures { MatchOption result (some_end (is_like parts.now) (chars text.now) ≡ false) (λ rest. IsLeft parts.now text.now rest.now) }
 {
     let ahead = behind(text, start);
-    match memmem::find(ahead.as_bytes(), run.as_bytes()) {
+    match run.find(ahead.as_bytes()) {
         None => None,
         Some(place) => {
             if !ahead.is_char_boundary(place) {
@@ -102,39 +102,4 @@ fn from_run<'a>(parts: &[LikePart], start: usize, run: &str, text: &'a str) -> O
             Some(behind(text, count(ahead.split_at(place).0)))
         }
     }
-}
-
-#[tactic(auto, using(std::proofs::lemmas::List::take_rest))]
-fn from_short_run<'a>(parts: &[LikePart], start: usize, text: &'a str) -> Option<&'a str>
-    requires within { start ≤ length parts.now }
-    requires before { NoManyBefore parts.now start }
-    ensures { MatchOption result (some_end (is_like parts.now) (chars text.now) ≡ false) (λ rest. IsLeft parts.now text.now rest.now) }
-{
-    let mut run = ArrayString::<SHORT_BYTES>::new();
-    write_run(&parts[start..], &mut run);
-    from_run(parts, start, run.as_str(), text)
-}
-
-#[tactic(auto, using(std::proofs::lemmas::List::take_rest))]
-fn from_long_run<'a>(parts: &[LikePart], start: usize, text: &'a str) -> Option<&'a str>
-    requires within { start ≤ length parts.now }
-    requires before { NoManyBefore parts.now start }
-    ensures { MatchOption result (some_end (is_like parts.now) (chars text.now) ≡ false) (λ rest. IsLeft parts.now text.now rest.now) }
-{
-    let mut run = ArrayString::<LONG_BYTES>::new();
-    write_run(&parts[start..], &mut run);
-    from_run(parts, start, run.as_str(), text)
-}
-
-/// What is left of a text from the first place on where the longest run of the parts up to the next `Many` stands as far
-/// behind it as it has to. `None`: no end of the text is like the pattern.
-pub fn from_longest_run<'a>(parts: &[LikePart], run: Run, text: &'a str) -> Option<&'a str>
-    requires within { run.start ≤ length parts.now }
-    requires before { NoManyBefore parts.now run.start }
-    ensures { MatchOption result (some_end (is_like parts.now) (chars text.now) ≡ false) (λ rest. IsLeft parts.now text.now rest.now) }
-{
-    if run.length > SHORT {
-        return from_long_run(parts, run.start, text);
-    }
-    from_short_run(parts, run.start, text)
 }

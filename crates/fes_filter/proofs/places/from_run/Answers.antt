@@ -6,13 +6,13 @@ use Rattle.fes_filter.proofs.places.from_run.Goals as goal
 
 pub returns-in-None : goal.returns-in-None
 returns-in-None c =
-    let none = rw (c.as_bytes.ensures.value, c.as_bytes-2.ensures.value) at c.in-None.ensures in
+    let none = rw c.as_bytes.ensures.value at c.in-None.ensures in
     none_stands c.args.parts.now c.args.start c.args.text.now c.behind-ahead.result.now c.args.run.now c.requires.begins.0
     c.requires.before c.behind-ahead.utf8 c.behind-ahead.ensures.value c.requires.begins.1 none
 
 pub returns-else-not-is_char_boundary : goal.returns-else-not-is_char_boundary
 returns-else-not-is_char_boundary c =
-    let found = rw (c.as_bytes.ensures.value, c.as_bytes-2.ensures.value) at c.in-Some.ensures in
+    let found = rw c.as_bytes.ensures.value at c.in-Some.ensures in
     let edge : IsCharBoundary c.behind-ahead.result.now c.in-Some.place = search rules in
     record {
       same = ap (some_end (is_like c.args.parts.now)) c.behind.ensures.value

@@ -1,6 +1,6 @@
 use Rattle.std.proofs.Common.{rules, sym, ◌∙◌, arith}
 use Rattle.fes_filter.proofs.Likes.{first_place, past_place, no_place, whole_place}
-use Rattle.fes_filter.proofs.like.next_piece.Goals as goal
+use Rattle.fes_filter.proofs.like.piece_by_run.Goals as goal
 
 pub returns-in-Whole-clause-value : goal.returns-in-Whole-clause-value
 returns-in-Whole-clause-value c = sym (sym c.loop-left.invariant.same ∙ sym c.in-Some.ensures.same ∙ whole_place _ _ c.in-Whole.ensures.value)

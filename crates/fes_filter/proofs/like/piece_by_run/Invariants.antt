@@ -2,7 +2,7 @@ use Rattle.std.proofs.Common.{◌≡◌, ◌≤◌, length, chars}
 use denote.Text.{Utf8}
 use denote.Shadow.{shadow}
 use Rattle.fes_filter.specs.Like.{is_like, some_end}
-use Rattle.fes_filter.proofs.like.next_piece.Given as goal
+use Rattle.fes_filter.proofs.like.piece_by_run.Given as goal
 
 abbrev pub invariant-loop-left : goal.invariant-loop-left
 invariant-loop-left l = record {
