@@ -18,13 +18,25 @@ pub(crate) struct Row {
     pub(crate) feature: Option<Feature>,
 }
 
-// How many rows have lesser numbers. The list is halved.
+// Where the row of a number is while no row between the first and it was swept away.
+fn expected_place(rows: &[Row], number: u64) -> usize {
+    match rows.first() {
+        None => 0,
+        Some(first) => number.saturating_sub(first.number) as usize,
+    }
+}
+
+// How many rows have lesser numbers. The expected place is looked at first; else the list is halved.
 fn place_of(rows: &[Row], number: u64) -> usize
     requires { IsRising rows.now }
     ensures bound { result ≤ length rows.now }
     ensures low { AllWithin (λ row. nat_lt row.number number ≡ true) rows.now 0 result }
     ensures high { AllWithin (λ row. nat_lt row.number number ≡ false) rows.now result (length rows.now) }
 {
+    let expected = expected_place(rows, number);
+    if is_at(rows, expected, number) {
+        return expected;
+    }
     rows.partition_point(|row| row.number < number)
 }
 
