@@ -10,7 +10,9 @@ ghost use Rattle.fes_filter.specs.Truth.{passes, is_text_like};
 
 use crate::letters::{behind, count, split_first};
 use crate::pattern::LikePart;
-use crate::places::{from_run, has_many, is_many, longest_run, write_run, LONG_BYTES, SHORT, SHORT_BYTES};
+use crate::places::{
+    LONG_BYTES, SHORT, SHORT_BYTES, from_run, has_many, is_many, longest_run, write_run,
+};
 use arrayvec::ArrayString;
 use feature_values::Value;
 use memchr::memmem::Finder;
@@ -94,7 +96,12 @@ fn last_piece<'a>(parts: &'a [LikePart], text: &'a str) -> Front<'a>
 
 /// What is left behind the first place where the parts up to the next `Many` stand for the characters there. The first
 /// place is as good as any later one, so nobody has to come back to it. The run is one of theirs, from `start` on.
-fn piece_by_run<'a>(parts: &'a [LikePart], start: usize, run: &Finder<'_>, text: &'a str) -> Front<'a>
+fn piece_by_run<'a>(
+    parts: &'a [LikePart],
+    start: usize,
+    run: &Finder<'_>,
+    text: &'a str,
+) -> Front<'a>
     requires within { start ≤ length parts.now }
     requires before { NoManyBefore parts.now start }
     requires begins { IsBeginOf run.now (letters (drop start parts.now)) }

@@ -86,7 +86,12 @@ pub fn write_run<const CAP: usize>(parts: &[LikePart], run: &mut ArrayString<CAP
 
 /// What is left of a text from the first place on where the run, with which the parts from `start` on begin, stands as far
 /// behind it as it has to. `None`: no end of the text is like the pattern.
-pub fn from_run<'a>(parts: &[LikePart], start: usize, run: &Finder<'_>, text: &'a str) -> Option<&'a str>
+pub fn from_run<'a>(
+    parts: &[LikePart],
+    start: usize,
+    run: &Finder<'_>,
+    text: &'a str,
+) -> Option<&'a str>
     requires within { start ≤ length parts.now }
     requires before { NoManyBefore parts.now start }
     requires begins { IsBeginOf run.now (letters (drop start parts.now)) }
