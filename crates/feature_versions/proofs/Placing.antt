@@ -1,5 +1,5 @@
 -- Where a number stands among rows, and what its place tells of their features.
-use Rattle.std.proofs.Common.{◌≡◌, ℕ, zero, suc, ◌+◌, ◌<◌, ◌≤◌, Bool, true, false, nat_lt, List, [], ◌∷◌, ◌++◌, length, get_or, take, drop, All, Option, Some, None, refl, sym, ap, ◌∙◌, subst, length-take, length-drop, add-one, arith}
+use Rattle.std.proofs.Common.{◌≡◌, ℕ, zero, suc, ◌+◌, ◌-◌, ◌<◌, ◌≤◌, Bool, true, false, nat_lt, List, [], ◌∷◌, ◌++◌, length, get_or, take, drop, All, Option, Some, None, refl, sym, ap, ◌∙◌, subst, length-take, length-drop, add-one, arith}
 use Rattle.std.specs.Prelude.{slice_get}
 use Rattle.std.specs.List.{AllWithin}
 use Rattle.std.specs.List.Sorted.{IsPartitionedBy}
@@ -53,6 +53,20 @@ parted_at rows number i j d false is rising le lt holds = let same : i ≡ j = g
 
 pub is_parted : (rows : List Row) (number : ℕ) → IsRising rows → IsPartitionedBy (λ row. nat_lt row.number number) rows
 is_parted rows number rising i j d le lt holds = parted_at rows number i j d (nat_lt i j) refl rising le lt holds
+
+-- rows before one of a lesser number have lesser ones
+pub lesser_all : (number : ℕ) (rows : List Row) (last : Row) → IsRising rows → slice_get rows (length rows - 1) ≡ Some last → nat_lt last.number number ≡ true → AllWithin (λ row. nat_lt row.number number ≡ true) rows 0 (length rows)
+lesser_all number rows last rising at lt k d from within =
+    let place : length rows - 1 < length rows = omega (arith, within) in
+    let is : get_or rows (length rows - 1) d ≡ last = got rows (length rows - 1) d last at in
+    let holds : nat_lt (get_or rows (length rows - 1) d).number number ≡ true = rw is lt in
+    is_parted rows number rising k (length rows - 1) d (omega (arith, within)) place holds
+  where
+    got : (rs : List Row) (j : ℕ) (d r : Row) → slice_get rs j ≡ Some r → get_or rs j d ≡ r
+    got [] zero d r is = absurd (let bad = is in cc)
+    got [] (suc j) d r is = absurd (let bad = is in cc)
+    got (x ∷ rs) zero d r is = cc
+    got (x ∷ rs) (suc j) d r is = got rs j d r is
 
 rising_drop : (rows : List Row) (i : ℕ) → IsRising rows → IsRising (drop i rows)
 rising_drop [] zero rising = rising

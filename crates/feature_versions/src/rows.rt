@@ -26,13 +26,27 @@ fn expected_place(rows: &[Row], number: u64) -> usize {
     }
 }
 
-// How many rows have lesser numbers. The expected place is looked at first; else the list is halved.
+// Whether all rows have lesser numbers, since the last one has.
+fn are_lesser(rows: &[Row], number: u64) -> bool
+    requires { IsRising rows.now }
+    ensures { IsTrue result → AllWithin (λ row. nat_lt row.number number ≡ true) rows.now 0 (length rows.now) }
+{
+    match rows.last() {
+        None => true,
+        Some(last) => last.number < number,
+    }
+}
+
+// How many rows have lesser numbers. The last row and the expected place are looked at first; else the list is halved.
 fn place_of(rows: &[Row], number: u64) -> usize
     requires { IsRising rows.now }
     ensures bound { result ≤ length rows.now }
     ensures low { AllWithin (λ row. nat_lt row.number number ≡ true) rows.now 0 result }
     ensures high { AllWithin (λ row. nat_lt row.number number ≡ false) rows.now result (length rows.now) }
 {
+    if are_lesser(rows, number) {
+        return rows.len();
+    }
     let expected = expected_place(rows, number);
     if is_at(rows, expected, number) {
         return expected;

@@ -19,8 +19,8 @@ returns-then-is_at-clause-bound c =
 
 pub returns-then-is_at-clause-low : goal.returns-then-is_at-clause-low
 returns-then-is_at-clause-low c =
-    (first_of_stands c.args.number c.args.rows.now _ c.requires (stands c.args.number c.args.rows.now _ (sym c.is_at.ensures.value ∙ c.if-is_at.true))).1.0
+    (first_of_stands c.args.number c.args.rows.now _ c.requires (stands c.args.number c.args.rows.now _ (sym c.is_at.ensures.value ∙ c.if-is_at.true))).1
 
 pub returns-then-is_at-clause-high : goal.returns-then-is_at-clause-high
 returns-then-is_at-clause-high c =
-    (first_of_stands c.args.number c.args.rows.now _ c.requires (stands c.args.number c.args.rows.now _ (sym c.is_at.ensures.value ∙ c.if-is_at.true))).1.1
+    (first_of_stands c.args.number c.args.rows.now _ c.requires (stands c.args.number c.args.rows.now _ (sym c.is_at.ensures.value ∙ c.if-is_at.true))).2
