@@ -4,4 +4,5 @@ pub mod Saying
 pub mod Changing
 pub mod Shorter
 pub mod Openings
+pub mod OpeningSides
 pub mod Looks

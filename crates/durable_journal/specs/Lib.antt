@@ -5,4 +5,5 @@ pub mod Recorded
 pub mod Faults
 pub mod Opened
 pub mod Current
+pub mod OpenedSide
 pub mod Counted

@@ -1,15 +1,17 @@
 //! From what was recovered to the next opening: a long side is made shorter, and the record of the opening is appended.
 
-ghost use Rattle.std.specs.Prelude.{◌≡◌, ◌⊎◌, ◌≤◌, ◌<◌, ◌+◌, ℕ, List, length, IfOk, IfErr, OnOk, Err};
+ghost use Rattle.std.specs.Prelude.{◌≡◌, ◌⊎◌, ◌≤◌, ◌<◌, ◌+◌, ◌++◌, ◌∷◌, [], ℕ, List, length, IfOk, IfErr, OnOk, Err};
 ghost use Rattle.disk_core.specs.Sides.{Always};
 ghost use Rattle.feature_journal.specs.Faults.{NoneFell, OneRose};
-ghost use Rattle.feature_journal.specs.Kept.{disks_of, generation_in, length_of, limit_of};
+ghost use Rattle.feature_journal.specs.Kept.{Rests, disks_of, generation_in, length_of, limit_of, seen};
 ghost use Rattle.feature_schema.specs.Rules.{KeepsRules};
 ghost use Rattle.journal_replay.specs.Written.{body_in, IsReadIn};
 ghost use Rattle.wfs_model.specs.Played.{played_one};
 ghost use Rattle.durable_journal.specs.Standing.{SaysKept, SaysOpened, next_opening};
+ghost use Rattle.durable_journal.specs.Current.{current_in};
 ghost use Rattle.durable_journal.specs.Kept.{Holds, IsAtRest};
 ghost use Rattle.durable_journal.specs.Opened.{last_opening, longest_kept, length_before, CannotOpen, IsOfBytes};
+ghost use Rattle.durable_journal.specs.OpenedSide.{HasRoom, IsBegunBy, opening_in};
 
 use crate::fault::{OpenFault, from_append, from_checkpoint};
 use crate::opening::Opened;
@@ -38,6 +40,7 @@ fn shorten_long<D: Disk>(
     requires rules { KeepsRules features.now.schema }
     requires holds { Holds D.images features.now.schema features.now.kept journal.old }
     ensures holds { OnOk result (Holds D.images features.now.schema features.now.kept journal.new) }
+    ensures room { OnOk result (HasRoom D.images features.now.schema features.now.kept journal.old journal.new) }
     ensures length { OnOk result (length_of journal.new ≡ length_before features.now.schema features.now.kept (length_of journal.old)) }
     ensures limit { OnOk result (limit_of journal.new ≡ limit_of journal.old) }
     ensures full { (sum : ℕ) → result ≡ Err (OpenFault.Full sum) → CannotOpen features.now.schema features.now.kept (limit_of journal.old) (length_of journal.old) (generation_in journal.old) sum }
@@ -80,6 +83,9 @@ fn append_opening<D: Disk>(
     requires below { features.now.kept.opening < last_opening }
     requires holds { Holds D.images features.now.schema features.now.kept journal.old }
     ensures rests { OnOk result (IsAtRest D.images features.now.schema (played_one features.now.kept (next_opening features.now.kept)) journal.new) }
+    ensures appended { OnOk result ((bodies : List (List ℕ)) → Rests D.images bodies (seen journal.old) → Rests D.images (bodies ++ opening_in features.now.schema features.now.kept ∷ []) (seen journal.new)) }
+    ensures current { OnOk result (current_in journal.new ≡ current_in journal.old) }
+    ensures longer { OnOk result (length_of journal.new ≡ length_of journal.old + 5 + length (opening_in features.now.schema features.now.kept)) }
     ensures limit { OnOk result (limit_of journal.new ≡ limit_of journal.old) }
     ensures full { (sum : ℕ) → result ≡ Err (OpenFault.Full sum)
         → (sum ≡ length_of journal.old + 5 + length (body_in features.now.schema (next_opening features.now.kept))) × (limit_of journal.old < sum) }
@@ -107,6 +113,7 @@ fn write_opening<D: Disk>(
     requires below { features.now.kept.opening < last_opening }
     requires holds { Holds D.images features.now.schema features.now.kept journal.old }
     ensures rests { OnOk result (IsAtRest D.images features.now.schema (played_one features.now.kept (next_opening features.now.kept)) journal.new) }
+    ensures begun { OnOk result (IsBegunBy D.images features.now.schema features.now.kept journal.old journal.new) }
     ensures limit { OnOk result (limit_of journal.new ≡ limit_of journal.old) }
     ensures full { (sum : ℕ) → result ≡ Err (OpenFault.Full sum) → CannotOpen features.now.schema features.now.kept (limit_of journal.old) (length_of journal.old) (generation_in journal.old) sum }
     ensures later { IfErr result (λ fault. IsOfBytes fault → ⊥) }
@@ -132,6 +139,7 @@ pub(crate) fn begin_opening<D: Disk>(
     ensures schema { IfOk result (λ opened. opened.features.schema ≡ recovered.features.schema) }
     ensures bodies { IfOk result (λ opened. opened.bodies ≡ recovered.bodies) }
     ensures rests { IfOk result (λ opened. IsAtRest D.images opened.features.schema opened.features.kept opened.journal) }
+    ensures begun { IfOk result (λ opened. IsBegunBy D.images recovered.features.schema recovered.features.kept recovered.journal opened.journal) }
     ensures limit { IfOk result (λ opened. limit_of opened.journal ≡ limit_of recovered.journal) }
     ensures full { (sum : ℕ) → IfErr result (λ e. e.1 ≡ OpenFault.Full sum → CannotOpen recovered.features.schema recovered.features.kept (limit_of recovered.journal) (length_of recovered.journal) (generation_in recovered.journal) sum) }
     ensures later { IfErr result (λ e. IsOfBytes e.1 → ⊥) }

@@ -2,7 +2,7 @@
 
 ghost use Rattle.std.specs.Prelude.{◌≡◌, ◌⊎◌, ◌≤◌, ℕ, List, All, length, Some, IfOk, IfErr};
 ghost use Rattle.feature_journal.specs.Faults.{NoneFell, OneRose};
-ghost use Rattle.feature_journal.specs.Kept.{greatest_side, disks_of, limit_of};
+ghost use Rattle.feature_journal.specs.Kept.{Rests, greatest_side, disks_of, length_of, limit_of, seen};
 ghost use Rattle.feature_journal.specs.Nothing.{Nothing, Unmade};
 ghost use Rattle.feature_journal.specs.Whole.{Says};
 ghost use Rattle.feature_schema.specs.Rules.{KeepsRules};
@@ -13,8 +13,10 @@ ghost use Rattle.recovery.specs.Looked.{Untouched};
 ghost use Rattle.recovery.specs.Outcome.{outcome_of};
 ghost use Rattle.wfs_model.specs.State.{Durable, nothing};
 ghost use Rattle.durable_journal.specs.Standing.{ComeTo, SaysOpened};
+ghost use Rattle.durable_journal.specs.Current.{current_in};
 ghost use Rattle.durable_journal.specs.Kept.{Holds};
 ghost use Rattle.durable_journal.specs.Opened.{AreBodiesOf, IsOpened, IsRefusal, IsOfBytes};
+ghost use Rattle.durable_journal.specs.OpenedSide.{IsOpenedSide};
 
 use crate::beginning::begin_opening;
 use crate::fault::{OpenFault, from_recovery};
@@ -47,6 +49,7 @@ fn recover_with<D: Disk>(
     ensures schema { IfOk result (λ o. o.features.schema ≡ schema.now) }
     ensures come { IfOk result (λ o. ComeTo schema.now o.features.kept o.bodies) }
     ensures holds { IfOk result (λ o. Holds D.images schema.now o.features.kept o.journal) }
+    ensures rests { IfOk result (λ o. Rests D.images o.bodies (seen o.journal)) }
     ensures limit { IfOk result (λ o. limit_of o.journal ≡ limit) }
     ensures told { IfOk result (λ o. (a b : List ℕ) → D.shown disks.a ≡ Some a → D.shown disks.b ≡ Some b → Answered o.journal (outcome_of (verdict_on schema.now) limit a b) limit o.bodies) }
     ensures refused { IfErr result (λ e. (a b : List ℕ) → D.shown disks.a ≡ Some a → D.shown disks.b ≡ Some b → IsRefusal schema.now limit (outcome_of (verdict_on schema.now) limit a b) e.1) }
@@ -83,9 +86,9 @@ fn recover_with<D: Disk>(
 }
 
 /// Opens the journal on two files: it recovers what their bodies come to, where `limit` is that of a side's length, at
-/// most 268,435,456 bytes, and begins the next opening. A side that is longer than 67,108,864 bytes is made shorter first.
-/// Then the record of the opening is appended, and what is kept has its number. Where no side is current the journal is
-/// made anew.
+/// most 268,435,456 bytes, and begins the next opening. A side of at most 67,108,864 bytes stays current; in the place of a
+/// longer one a checkpoint is made, so that the other side is current, with the next generation. Then the record of the
+/// opening is appended, and what is kept has its number. Where no side is current the journal is made anew.
 ///
 /// Until both files are synced a crash leaves what a crash before might have left. From then on it leaves what the bodies
 /// come to, or that with the tail behind the ending gate, until its gate is closed, or with this opening.
@@ -106,6 +109,8 @@ pub fn open_journal<D: Disk>(
     requires limit { limit ≤ greatest_side }
     ensures opened { IfOk result (λ o. IsOpened D.images schema.now limit o) }
     ensures told { IfOk result (λ o. (a b : List ℕ) → D.shown disks.a ≡ Some a → D.shown disks.b ≡ Some b → AreBodiesOf (outcome_of (verdict_on schema.now) limit a b) o.bodies) }
+    ensures side { IfOk result (λ o. (a b : List ℕ) → D.shown disks.a ≡ Some a → D.shown disks.b ≡ Some b
+        → IsOpenedSide D.images schema.now (outcome_of (verdict_on schema.now) limit a b) (current_in o.journal) (length_of o.journal) (disks_of o.journal)) }
     ensures refused { IfErr result (λ e. (a b : List ℕ) → D.shown disks.a ≡ Some a → D.shown disks.b ≡ Some b → IsRefusal schema.now limit (outcome_of (verdict_on schema.now) limit a b) e.1) }
     ensures unwritten { IfErr result (λ e. IsOfBytes e.1 → Untouched D.shown D.moment D.since D.images disks e.0) }
     ensures goes { IfOk result (λ o. (a b : List ℕ) (lists : List (List (List ℕ))) (kept : Durable) → D.shown disks.a ≡ Some a → D.shown disks.b ≡ Some b → (s : Says lists a b) → All (ComeTo schema.now kept) lists

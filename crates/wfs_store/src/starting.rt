@@ -1,8 +1,9 @@
 //! A store begins with what its journal holds.
 
 ghost use Rattle.std.specs.Prelude.{◌≡◌, ◌≤◌, ◌⊎◌, ℕ, List, All, IfOk, IfErr, Some, length};
-ghost use Rattle.durable_journal.specs.Current.{HoldsSome};
+ghost use Rattle.durable_journal.specs.Current.{HoldsSome, current_in};
 ghost use Rattle.durable_journal.specs.Opened.{IsOfBytes, IsOpened, IsRefusal};
+ghost use Rattle.durable_journal.specs.OpenedSide.{IsOpenedSide};
 ghost use Rattle.durable_journal.specs.Standing.{ComeTo, SaysOpened};
 ghost use Rattle.feature_journal.specs.Faults.{NoneFell, OneRose};
 ghost use Rattle.feature_journal.specs.Nothing.{Nothing, Unmade};
@@ -14,7 +15,7 @@ ghost use Rattle.recovery.specs.Crash.{AfterSync, WithTail};
 ghost use Rattle.recovery.specs.Looked.{Untouched};
 ghost use Rattle.recovery.specs.Outcome.{outcome_of};
 ghost use Rattle.wfs_model.specs.State.{Durable, nothing};
-ghost use Rattle.feature_journal.specs.Kept.{disks_of};
+ghost use Rattle.feature_journal.specs.Kept.{disks_of, length_of};
 ghost use Rattle.wfs_store.specs.Kept.{opening_on};
 ghost use Rattle.wfs_store.specs.Started.{HasBegun, OpensOn};
 
@@ -38,6 +39,8 @@ fn begin<D: Disk>(alloc: Global, opened: Opened<D>, signature: Text, limits: Lim
     ensures begun { HasBegun opened.features.schema limits result }
     ensures opening { result.opening ≡ opening_on opened.features.schema opened.bodies }
     ensures disks { result.disks ≡ disks_of opened.journal }
+    ensures side { result.side ≡ length_of opened.journal }
+    ensures turned { result.current ≡ current_in opened.journal }
     ensures current { HoldsSome D.images result.current result.disks }
 {
     what_bodies_come_to_is_kept_well();
@@ -68,8 +71,9 @@ fn begin<D: Disk>(alloc: Global, opened: Opened<D>, signature: Text, limits: Lim
 }
 
 impl<D: Disk> Store<D> {
-    /// Opens the journal of two disks under the next number, and begins a history on what it holds. No lock is held. Where the journal's side
-    /// is longer than 67,108,864 bytes, it is made shorter first.
+    /// Opens the journal of two disks under the next number, and begins a history on what it holds. No lock is held. A side of at most
+    /// 67,108,864 bytes stays current, and the record of the opening stands behind what was there; in the place of a longer one the other side
+    /// is current, which holds a checkpoint and that record.
     ///
     /// # Errors
     ///
@@ -86,6 +90,7 @@ impl<D: Disk> Store<D> {
         ensures begun { IfOk result (HasBegun schema.now limits) }
         ensures opens { IfOk result (λ s. (a b : List ℕ) → D.shown disks.a ≡ Some a → D.shown disks.b ≡ Some b → OpensOn schema.now (outcome_of (verdict_on schema.now) limits.side a b) s.opening) }
         ensures current { IfOk result (λ s. HoldsSome D.images s.current s.disks) }
+        ensures side { IfOk result (λ s. (a b : List ℕ) → D.shown disks.a ≡ Some a → D.shown disks.b ≡ Some b → IsOpenedSide D.images schema.now (outcome_of (verdict_on schema.now) limits.side a b) s.current s.side s.disks) }
         ensures refused { IfErr result (λ e. (a b : List ℕ) → D.shown disks.a ≡ Some a → D.shown disks.b ≡ Some b → IsRefusal schema.now limits.side (outcome_of (verdict_on schema.now) limits.side a b) e.1) }
         ensures unwritten { IfErr result (λ e. IsOfBytes e.1 → Untouched D.shown D.moment D.since D.images disks e.0) }
         ensures goes { IfOk result (λ s. (a b : List ℕ) (lists : List (List (List ℕ))) (kept : Durable) → D.shown disks.a ≡ Some a → D.shown disks.b ≡ Some b → (s' : Says lists a b) → All (ComeTo schema.now kept) lists

@@ -1,7 +1,8 @@
-use Rattle.std.proofs.Common.{◌∙◌}
-use Rattle.feature_journal.specs.Kept.{disks_of}
+use Rattle.std.proofs.Common.{◌∙◌, ◌+◌, ◌∷◌, ◌++◌, ℕ, List, [], length, ap, subst}
+use Rattle.feature_journal.specs.Kept.{Rests, disks_of, length_of, seen}
 use Rattle.durable_journal.proofs.Shorter.{still_goes}
 use Rattle.durable_journal.proofs.Openings.{opening_rests, opening_goes, kept_opens}
+use Rattle.durable_journal.proofs.OpeningSides.{same_current}
 use Rattle.durable_journal.proofs.beginning.append_opening.Goals as goal
 
 pub returns-in-Err-clause-goes : goal.returns-in-Err-clause-goes
@@ -20,3 +21,14 @@ returns-in-Ok-append-clause-goes g c =
 pub returns-clause-goes : goal.returns-clause-goes
 returns-clause-goes g c =
     opening_goes g.D.Disk.images c.args.features.now.schema c.args.features.now.kept c.args.journal.now c.append.new.self c.requires.holds c.deref.result.now (c.deref.ensures.value ∙ c.in-Ok.ensures.body) c.in-Ok.ensures.read_back g.D.Disk.moment g.D.Disk.since c.append.ensures.goes
+
+pub returns-in-Ok-append-clause-appended : goal.returns-in-Ok-append-clause-appended
+returns-in-Ok-append-clause-appended g c bodies rests =
+    subst (λ (b : List ℕ). Rests g.D.Disk.images (bodies ++ b ∷ []) (seen c.append.new.self)) (c.deref.ensures.value ∙ c.in-Ok.ensures.body) (c.in-Ok-append.ensures.done bodies rests)
+
+pub returns-in-Ok-append-clause-current : goal.returns-in-Ok-append-clause-current
+returns-in-Ok-append-clause-current g c = same_current _ _ _ _ c.in-Ok-append.ensures.longer.0 c.in-Ok-append.ensures.longer.1
+
+pub returns-in-Ok-append-clause-longer : goal.returns-in-Ok-append-clause-longer
+returns-in-Ok-append-clause-longer g c =
+    c.in-Ok-append.ensures.longer.2 ∙ ap (λ (b : List ℕ). length_of c.args.journal.now + 5 + length b) (c.deref.ensures.value ∙ c.in-Ok.ensures.body)

@@ -1,3 +1,4 @@
+use Rattle.durable_journal.proofs.OpeningSides.{room_kept, room_made}
 use Rattle.durable_journal.proofs.Shorter.{still_goes}
 use Rattle.durable_journal.proofs.beginning.shorten_long.Goals as goal
 
@@ -5,3 +6,11 @@ pub returns-then-side_length-le-LONGEST_KEPT-clause-goes :
     goal.returns-then-side_length-le-LONGEST_KEPT-clause-goes
 returns-then-side_length-le-LONGEST_KEPT-clause-goes g c =
     still_goes g.D.Disk.moment g.D.Disk.since g.D.Disk.images g.met.D.Disk.counts g.met.D.Disk.only c.args.features.now.schema c.args.features.now.kept c.args.journal.now c.requires.holds
+
+pub returns-then-side_length-le-LONGEST_KEPT-clause-room : goal.returns-then-side_length-le-LONGEST_KEPT-clause-room
+returns-then-side_length-le-LONGEST_KEPT-clause-room g c =
+    room_kept g.D.Disk.images c.args.features.now.schema c.args.features.now.kept c.args.journal.now c.side_length.result c.side_length.ensures c.then-side_length-le-LONGEST_KEPT.holds
+
+pub returns-in-Ok-clause-room : goal.returns-in-Ok-clause-room
+returns-in-Ok-clause-room g c =
+    room_made g.D.Disk.images c.args.features.now.schema c.args.features.now.kept c.args.journal.now c.make_checkpoint.new.journal c.side_length.result c.side_length.ensures c.else-side_length-le-LONGEST_KEPT.holds c.in-Ok.ensures.turned c.in-Ok.ensures.rests

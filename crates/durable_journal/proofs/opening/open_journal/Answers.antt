@@ -11,6 +11,7 @@ use Rattle.durable_journal.specs.Standing.{SaysOpened}
 use Rattle.durable_journal.specs.Kept.{Holds}
 use Rattle.durable_journal.specs.Opened.{AreBodiesOf, CannotOpen}
 use Rattle.durable_journal.proofs.Openings.{told_bodies, not_opened, said_kept, nothing_kept, more_synced, synced_on, is_opened, by_fault, opens_so}
+use Rattle.durable_journal.proofs.OpeningSides.{opened_side}
 use Rattle.durable_journal.proofs.opening.open_journal.Goals as goal
 
 pub returns-in-Err-clause-goes_err : goal.returns-in-Err-clause-goes_err
@@ -36,6 +37,12 @@ pub returns-in-Ok-clause-told : goal.returns-in-Ok-clause-told
 returns-in-Ok-clause-told g c =
     ok_map c.begin_opening.result _ _ (λ o same a b is_a is_b. subst (AreBodiesOf (outcome_of (verdict_on c.args.schema.now) c.args.limit a b)) (sym same)
     (told_bodies c.in-Ok.recovered.journal (outcome_of (verdict_on c.args.schema.now) c.args.limit a b) c.args.limit c.in-Ok.recovered.bodies (c.in-Ok.ensures.told a b is_a is_b))) c.begin_opening.ensures.bodies
+
+pub returns-in-Ok-clause-side : goal.returns-in-Ok-clause-side
+returns-in-Ok-clause-side g c =
+    let from = c.in-Ok.recovered in
+    ok_map c.begin_opening.result _ _ (λ o begun a b is_a is_b.
+    opened_side g.D.Disk.images c.args.schema.now from.features.schema from.features.kept from.journal o.journal (outcome_of (verdict_on c.args.schema.now) c.args.limit a b) c.args.limit from.bodies c.in-Ok.ensures.schema (c.in-Ok.ensures.told a b is_a is_b) c.in-Ok.ensures.come c.in-Ok.ensures.rests begun) c.begin_opening.ensures.begun
 
 pub returns-in-Ok-clause-refused : goal.returns-in-Ok-clause-refused
 returns-in-Ok-clause-refused g c =

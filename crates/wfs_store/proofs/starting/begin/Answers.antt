@@ -1,5 +1,5 @@
 -- What the bodies come to is kept well, and so is the store that begins on it.
-use Rattle.std.proofs.Common.{◌≤◌, ◌∙◌, ℕ, All, None, refl, sym, ap, subst}
+use Rattle.std.proofs.Common.{◌≤◌, ◌∙◌, ℕ, All, None, refl, sym, ap, subst, arith}
 use Rattle.durable_journal.proofs.Shorter.{just_held}
 use Rattle.wfs_model.specs.Playable.{most_number}
 use Rattle.wfs_model.specs.State.{Durable, opened}
@@ -28,3 +28,10 @@ pub returns-clause-current : goal.returns-clause-current
 returns-clause-current g c =
     let at = c.requires.opened.rests in
     (at.bodies, just_held g.D.Disk.images at.bodies c.args.opened.journal at.rests)
+
+pub returns-clause-side : goal.returns-clause-side
+returns-clause-side g c =
+    let within = c.requires.opened.rests.rests.within in
+    let most = c.requires.opened.rests.rests.limit in
+    let told = c.side_length-side.ensures in
+    omega (arith, told, within, most)
