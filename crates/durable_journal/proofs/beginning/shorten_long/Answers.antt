@@ -9,8 +9,8 @@ returns-then-side_length-le-LONGEST_KEPT-clause-goes g c =
 
 pub returns-then-side_length-le-LONGEST_KEPT-clause-room : goal.returns-then-side_length-le-LONGEST_KEPT-clause-room
 returns-then-side_length-le-LONGEST_KEPT-clause-room g c =
-    room_kept g.D.Disk.images c.args.features.now.schema c.args.features.now.kept c.args.journal.now c.side_length.result c.side_length.ensures c.then-side_length-le-LONGEST_KEPT.holds
+    room_kept g.D.Disk.images c.args.features.now.schema c.args.features.now.kept c.args.journal.now c.side_length.result c.side_length.ensures c.if-side_length-le-LONGEST_KEPT.true
 
 pub returns-in-Ok-clause-room : goal.returns-in-Ok-clause-room
 returns-in-Ok-clause-room g c =
-    room_made g.D.Disk.images c.args.features.now.schema c.args.features.now.kept c.args.journal.now c.make_checkpoint.new.journal c.side_length.result c.side_length.ensures c.else-side_length-le-LONGEST_KEPT.holds c.in-Ok.ensures.turned c.in-Ok.ensures.rests
+    room_made g.D.Disk.images c.args.features.now.schema c.args.features.now.kept c.args.journal.now c.side_length.result c.side_length.ensures c.make_checkpoint.new.journal c.if-side_length-le-LONGEST_KEPT.false c.in-Ok.ensures.turned c.in-Ok.ensures.rests
