@@ -1,3 +1,4 @@
+use Rattle.std.proofs.Common.{arith}
 use Rattle.durable_journal.proofs.OpeningSides.{room_kept, room_made}
 use Rattle.durable_journal.proofs.Shorter.{still_goes}
 use Rattle.durable_journal.proofs.beginning.shorten_long.Goals as goal
@@ -9,8 +10,10 @@ returns-then-side_length-le-LONGEST_KEPT-clause-goes g c =
 
 pub returns-then-side_length-le-LONGEST_KEPT-clause-room : goal.returns-then-side_length-le-LONGEST_KEPT-clause-room
 returns-then-side_length-le-LONGEST_KEPT-clause-room g c =
-    room_kept g.D.Disk.images c.args.features.now.schema c.args.features.now.kept c.args.journal.now c.side_length.result c.side_length.ensures c.if-side_length-le-LONGEST_KEPT.true
+    let few = c.if-side_length-le-LONGEST_KEPT.true in
+    room_kept g.D.Disk.images c.args.features.now.schema c.args.features.now.kept c.args.journal.now c.side_length.result c.side_length.ensures (omega (arith, few))
 
 pub returns-in-Ok-clause-room : goal.returns-in-Ok-clause-room
 returns-in-Ok-clause-room g c =
-    room_made g.D.Disk.images c.args.features.now.schema c.args.features.now.kept c.args.journal.now c.side_length.result c.side_length.ensures c.make_checkpoint.new.journal c.if-side_length-le-LONGEST_KEPT.false c.in-Ok.ensures.turned c.in-Ok.ensures.rests
+    let over = c.if-side_length-le-LONGEST_KEPT.false in
+    room_made g.D.Disk.images c.args.features.now.schema c.args.features.now.kept c.args.journal.now c.side_length.result c.side_length.ensures c.make_checkpoint.new.journal (omega (arith, over)) c.in-Ok.ensures.turned c.in-Ok.ensures.rests
