@@ -127,6 +127,57 @@ def instructions(body: bytes) -> int:
     raise AssertionError("the program was not counted")
 
 
+# For each record two writes and two syncs: its length, its body and a closed gate behind the gate, and then the gate.
+PLAIN_WRITER = r"""
+#include <fcntl.h>
+#include <stdio.h>
+#include <stdlib.h>
+#include <string.h>
+#include <time.h>
+#include <unistd.h>
+
+int main(int count, char **words) {
+    int file = open(words[1], O_RDWR);
+    long gate = atol(words[2]), size = atol(words[3]), times = atol(words[4]);
+    static char record[65536], open_gate = 1;
+    (void)count;
+    memset(record, 'a', sizeof record);
+    record[size - 1] = 0;
+    struct timespec from, to;
+    clock_gettime(CLOCK_MONOTONIC, &from);
+    for (long n = 0; n < times; n++, gate += size) {
+        if (pwrite(file, record, size, gate + 1) != size || fdatasync(file) != 0) return 1;
+        if (pwrite(file, &open_gate, 1, gate) != 1 || fdatasync(file) != 0) return 1;
+    }
+    clock_gettime(CLOCK_MONOTONIC, &to);
+    printf("%ld\n", (to.tv_sec - from.tv_sec) * 1000000 + (to.tv_nsec - from.tv_nsec) / 1000);
+    return 0;
+}
+"""
+
+
+@contextlib.contextmanager
+def plain_writer(folder: str):
+    """A function of the size of a record, in bytes, and of how many there are. It tells how many microseconds a plain program in C takes for each
+    of them to write and sync it behind a side in this folder: a copy of the file that is named, or a new one."""
+    source, program, side = (os.path.join(folder, name) for name in ("plain_writer.c", "plain_writer", "plain_side"))
+    with open(source, "w", encoding="ascii") as text:
+        text.write(PLAIN_WRITER)
+    subprocess.run(["cc", "-O2", "-o", program, source], check=True)
+
+    def write(size: int, times: int, like: str = os.devnull) -> float:
+        shutil.copyfile(like, side)
+        with open(side, "ab") as file:
+            if file.tell() == 0:
+                file.write(b"\0")
+            gate = file.tell() - 1
+            os.fsync(file.fileno())
+        words = [str(number) for number in (gate, size, times)]
+        return int(subprocess.run([program, side, *words], stdout=subprocess.PIPE, check=True).stdout) / times
+
+    yield write
+
+
 def verdict(what: str, ratio: float, most: float) -> bool:
     good = ratio <= most
     print("%-60s %6.2f (at most %.1f)%s" % (what, ratio, most, "" if good else "  TOO MUCH"))

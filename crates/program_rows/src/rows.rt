@@ -1,13 +1,17 @@
 //! Runs from bytes to bytes, over ends and disks in memory. What is expected is written from the formats' own words.
 
 use disk_core::{MemDisk, Pair};
+use service_doors::{MemAcceptor, MemDoors};
 use std::alloc::Global;
+use std::sync::Wait;
+use std::thread::Threads;
 use wfs_ends::{ListClock, Mem, MemSink, MemSource};
-use wfsd_commands::{Done, wfsd};
+use wfsd_program::{Run, wfsd};
 
 mod queries;
 mod runs;
 mod served;
+mod services;
 mod sessions;
 mod stops;
 
@@ -190,12 +194,16 @@ struct Left {
     disks: Option<Pair<MemDisk>>,
 }
 
-fn left_by(done: Done<MemDisk>) -> Left {
-    let Done {
+fn left_by(run: Run<MemDisk, MemAcceptor, ListClock>) -> Left {
+    let Run {
         status,
         store,
         disks,
-    } = done;
+        workers,
+        idle,
+    } = run;
+    drop(workers);
+    drop(idle);
     match store {
         Some(store) => Left {
             status,
@@ -252,8 +260,14 @@ fn make_ready(
     make_ready_at(alloc, clock, words, schema, input, failing, room)
 }
 
-// Does a run on these disks: what it leaves, and its output.
-fn hold(alloc: Global, ready: Ready, disks: Pair<MemDisk>) -> (Left, MemSink) {
+// Does a run on these disks, with these doors: what it leaves, and its output.
+fn hold_with<R: Threads + Wait + Sync>(
+    rt: &R,
+    alloc: Global,
+    ready: Ready,
+    disks: Pair<MemDisk>,
+    doors: &mut MemDoors,
+) -> (Run<MemDisk, MemAcceptor, ListClock>, MemSink) {
     let Ready {
         words,
         mut schema,
@@ -261,16 +275,30 @@ fn hold(alloc: Global, ready: Ready, disks: Pair<MemDisk>) -> (Left, MemSink) {
         mut out,
         mut clock,
     } = ready;
-    let done = wfsd(
+    let run = wfsd(
+        rt,
         alloc,
         &words,
         &mut schema,
         &mut input,
         &mut out,
         disks,
+        doors,
         &mut clock,
     );
-    (left_by(done), out)
+    (run, out)
+}
+
+// Does a run on these disks that has no worker: what it leaves, and its output.
+fn hold<R: Threads + Wait + Sync>(
+    rt: &R,
+    alloc: Global,
+    ready: Ready,
+    disks: Pair<MemDisk>,
+) -> (Left, MemSink) {
+    let mut doors = MemDoors::new(alloc, Vec::new(alloc), Vec::new(alloc));
+    let (run, out) = hold_with(rt, alloc, ready, disks, &mut doors);
+    (left_by(run), out)
 }
 
 // What a run came to: its status, and the number of entries of its history.
@@ -281,14 +309,15 @@ fn end_of(left: &Left) -> End {
 }
 
 // Does a run in an empty folder: its end, and its output.
-fn go_empty(alloc: Global, ready: Ready) -> Mem<(End, MemSink)> {
+fn go_empty<R: Threads + Wait + Sync>(rt: &R, alloc: Global, ready: Ready) -> Mem<(End, MemSink)> {
     let disks = empty(alloc)?;
-    let (left, out) = hold(alloc, ready, disks);
+    let (left, out) = hold(rt, alloc, ready, disks);
     Ok((end_of(&left), out))
 }
 
 // Does a run over a schema and an input whose listed takes fail, in an empty folder, with an output of so many bytes.
-fn run(
+fn run<R: Threads + Wait + Sync>(
+    rt: &R,
     alloc: Global,
     words: &[&str],
     schema: &str,
@@ -297,14 +326,15 @@ fn run(
     room: u64,
 ) -> Mem<(End, MemSink)> {
     go_empty(
+        rt,
         alloc,
         make_ready(alloc, words, schema, input, failing, room)?,
     )
 }
 
 // What a session over an input puts out.
-fn talk(alloc: Global, input: &str) -> Mem<MemSink> {
-    let (_, out) = run(alloc, &["talk", "d"], SCHEMA, input, &[], 20_000)?;
+fn talk<R: Threads + Wait + Sync>(rt: &R, alloc: Global, input: &str) -> Mem<MemSink> {
+    let (_, out) = run(rt, alloc, &["talk", "d"], SCHEMA, input, &[], 20_000)?;
     Ok(out)
 }
 

@@ -1,17 +1,12 @@
 -- What the words ask for.
 use Rattle.std.specs.Prelude.{◌≡◌, ℕ, List, Option, Some, None, ⊤}
 use Rattle.wfs_words.specs.declared.command.Command.{Command}
-use Rattle.wfs_words.specs.declared.command.Command.TheVariants.{Serve, Drill}
+use Rattle.wfs_words.specs.declared.command.Command.TheVariants.{Drill}
 use Rattle.wfs_words.specs.Words.{asked_of}
 
 -- the words ask for this command, of some directory
 abbrev pub AskFor : List (List ℕ) → Command → Type 0
 AskFor words c = (directory : List ℕ) × (asked_of words ≡ Some (record { command = c; directory = directory }))
-
--- the command that is read and not served so far
-abbrev pub IsServe : Command → Type 0
-IsServe (Serve listen workers connections) = ⊤
-IsServe other = ⊥
 
 abbrev pub IsDrill : Command → Type 0
 IsDrill (Drill rounds) = ⊤

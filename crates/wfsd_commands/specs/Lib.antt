@@ -7,7 +7,6 @@ pub mod Early
 pub mod Left
 pub mod Loading
 pub mod Restarted
-pub mod Runs
 pub mod Source
 pub mod Starting
 pub mod Statuses

@@ -1,4 +1,5 @@
-//! The commands of the program: a session over the store, a look at what it holds, a journal made shorter, and a drill.
+//! The commands of the program that wait for nobody: a session over the store, a look at what it holds, a journal made shorter, and a drill. With them, what comes
+//! before any command's own work: the schema, the store, and the lines and statuses of what refuses them.
 #![tactic(auto)]
 
 mod commands;
@@ -7,7 +8,6 @@ mod done;
 mod drill_command;
 mod drilling;
 mod load;
-mod program;
 mod restart;
 mod source;
 mod starting;
@@ -18,7 +18,6 @@ pub use conversation::talk;
 pub use done::{DONE, Done, OUT_OF_MEMORY, WRITE_FAULT, leave_disks};
 pub use drill_command::{drill, drill_rounds};
 pub use load::{Unloaded, load_schema};
-pub use program::wfsd;
 pub use restart::start_again;
 pub use starting::{end_for_memory, end_for_words, end_unloaded, start_store};
 pub use statuses::say_unopened;

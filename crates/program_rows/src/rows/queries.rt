@@ -70,9 +70,9 @@ fn input_of(alloc: Global, query: Query) -> Mem<String> {
 }
 
 // What the program answers to a query behind the Insert of all features, and to this Insert.
-fn answered(alloc: Global, query: Query) -> Mem<MemSink> {
+fn answered<R: Threads + Wait + Sync>(rt: &R, alloc: Global, query: Query) -> Mem<MemSink> {
     let input = input_of(alloc, query)?;
-    talk(alloc, input.as_str())
+    talk(rt, alloc, input.as_str())
 }
 
 // The identifier of the feature that a tag begins.
@@ -119,16 +119,16 @@ fn has_counts(alloc: Global, output: &str, matched: u64) -> Mem<bool> {
 }
 
 // Whether a query finds what it should.
-fn finds(alloc: Global, row: &Found) -> Mem<bool> {
+fn finds<R: Threads + Wait + Sync>(rt: &R, alloc: Global, row: &Found) -> Mem<bool> {
     let (query, matched, expected) = *row;
-    let out = answered(alloc, query)?;
+    let out = answered(rt, alloc, query)?;
     Ok(has_counts(alloc, text_of(&out), matched)? && has_features(alloc, text_of(&out), expected)?)
 }
 
 // The first query of a table that finds something else.
-fn missed(alloc: Global, rows: &[Found]) -> Mem<Option<Query>> {
+fn missed<R: Threads + Wait + Sync>(rt: &R, alloc: Global, rows: &[Found]) -> Mem<Option<Query>> {
     for row in rows {
-        if !finds(alloc, row)? {
+        if !finds(rt, alloc, row)? {
             return Ok(Some(row.0));
         }
     }
@@ -160,16 +160,16 @@ fn ends_in_refusal(alloc: Global, output: &str, row: u8, locator: &str) -> Mem<b
 }
 
 // Whether a query is refused by this row and locator.
-fn is_unfit(alloc: Global, fault: &Fault) -> Mem<bool> {
+fn is_unfit<R: Threads + Wait + Sync>(rt: &R, alloc: Global, fault: &Fault) -> Mem<bool> {
     let (query, row, locator) = *fault;
-    let out = answered(alloc, query)?;
+    let out = answered(rt, alloc, query)?;
     ends_in_refusal(alloc, text_of(&out), row, locator)
 }
 
 // The first query of `UNFIT` that is answered otherwise.
-fn judged_otherwise(alloc: Global) -> Mem<Option<Query>> {
+fn judged_otherwise<R: Threads + Wait + Sync>(rt: &R, alloc: Global) -> Mem<Option<Query>> {
     for fault in UNFIT.iter() {
-        if !is_unfit(alloc, fault)? {
+        if !is_unfit(rt, alloc, fault)? {
             return Ok(Some(fault.0));
         }
     }
@@ -178,30 +178,30 @@ fn judged_otherwise(alloc: Global) -> Mem<Option<Query>> {
 
 #[test]
 fn types_and_ids_choose_features_page_by_page(rt: HostRuntime) {
-    assert_eq!(rt; missed(rt.alloc(), &BY_TYPE_AND_ID), Ok(None));
+    assert_eq!(rt; missed(&rt, rt.alloc(), &BY_TYPE_AND_ID), Ok(None));
 }
 
 #[test]
 fn a_box_meets_geometries_and_not_their_bounds(rt: HostRuntime) {
-    assert_eq!(rt; missed(rt.alloc(), &BY_BOX), Ok(None));
+    assert_eq!(rt; missed(&rt, rt.alloc(), &BY_BOX), Ok(None));
 }
 
 #[test]
 fn keys_put_features_in_order(rt: HostRuntime) {
-    assert_eq!(rt; missed(rt.alloc(), &SORTED), Ok(None));
+    assert_eq!(rt; missed(&rt, rt.alloc(), &SORTED), Ok(None));
 }
 
 #[test]
 fn comparisons_choose_features(rt: HostRuntime) {
-    assert_eq!(rt; missed(rt.alloc(), &COMPARED), Ok(None));
+    assert_eq!(rt; missed(&rt, rt.alloc(), &COMPARED), Ok(None));
 }
 
 #[test]
 fn other_operators_choose_features(rt: HostRuntime) {
-    assert_eq!(rt; missed(rt.alloc(), &BY_OTHER_OPERATORS), Ok(None));
+    assert_eq!(rt; missed(&rt, rt.alloc(), &BY_OTHER_OPERATORS), Ok(None));
 }
 
 #[test]
 fn queries_are_refused_by_their_first_fault(rt: HostRuntime) {
-    assert_eq!(rt; judged_otherwise(rt.alloc()), Ok(None));
+    assert_eq!(rt; judged_otherwise(&rt, rt.alloc()), Ok(None));
 }

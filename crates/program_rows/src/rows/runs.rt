@@ -36,20 +36,29 @@ fn disks_if(held: (Left, MemSink), status: u8, output: &[u8]) -> Option<Pair<Mem
 }
 
 // Does a run on the files that are left so far. None where it comes to something else.
-fn go(alloc: Global, run: &Run, disks: Option<Pair<MemDisk>>) -> Mem<Option<Pair<MemDisk>>> {
+fn go<R: Threads + Wait + Sync>(
+    rt: &R,
+    alloc: Global,
+    run: &Run,
+    disks: Option<Pair<MemDisk>>,
+) -> Mem<Option<Pair<MemDisk>>> {
     let output = output_of(alloc, run.3, run.4)?;
     let ready = ready_for(alloc, run)?;
     Ok(match disks {
-        Some(disks) => disks_if(hold(alloc, ready, disks), run.2, output.as_bytes()),
+        Some(disks) => disks_if(hold(rt, alloc, ready, disks), run.2, output.as_bytes()),
         None => None,
     })
 }
 
 // Does runs in an empty folder, one after the other, and answers the files. None where one of them comes to something else.
-fn go_all(alloc: Global, runs: &[Run]) -> Mem<Option<Pair<MemDisk>>> {
+fn go_all<R: Threads + Wait + Sync>(
+    rt: &R,
+    alloc: Global,
+    runs: &[Run],
+) -> Mem<Option<Pair<MemDisk>>> {
     let mut disks = Some(empty(alloc)?);
     for run in runs {
-        disks = go(alloc, run, disks)?;
+        disks = go(rt, alloc, run, disks)?;
     }
     Ok(disks)
 }
@@ -67,8 +76,14 @@ fn has_length(disk: &mut MemDisk, length: u64) -> bool {
 }
 
 // Whether runs in an empty folder come to what they say, and leave files of these lengths.
-fn come_to(alloc: Global, runs: &[Run], a: u64, b: u64) -> Mem<bool> {
-    match go_all(alloc, runs)? {
+fn come_to<R: Threads + Wait + Sync>(
+    rt: &R,
+    alloc: Global,
+    runs: &[Run],
+    a: u64,
+    b: u64,
+) -> Mem<bool> {
+    match go_all(rt, alloc, runs)? {
         Some(mut disks) => Ok(has_length(&mut disks.a, a) && has_length(&mut disks.b, b)),
         None => Ok(false),
     }
@@ -114,12 +129,12 @@ static THIRD_MARK: [Run; 2] = [
 fn identifiers_go_on_in_the_next_run(rt: HostRuntime) -> Result<(), Fail> {
     // an opening has 107 bytes, two marks 52 and one 31, behind a head of 16 and before a last gate
     assert_eq!(rt;
-        come_to(rt.alloc(), &THIRD_MARK[..1], 176, 0),
+        come_to(&rt, rt.alloc(), &THIRD_MARK[..1], 176, 0),
         Ok(true),
         "two marks"
     );
     assert_eq!(rt;
-        come_to(rt.alloc(), &THIRD_MARK, 314, 0),
+        come_to(&rt, rt.alloc(), &THIRD_MARK, 314, 0),
         Ok(true),
         "a third one"
     );
@@ -137,8 +152,14 @@ const CHECKPOINT: &[u8] =
     b"\x01WFSJNL\x01\0\0\0\0\0\0\0\x02\x01\0\0\0\x23\x05\0\0\0\0\0\0\0\x02\0\x03\0\0\0\0\0\0\0\x02\0\0\0\0\0\0\0\0\0\0\0\0\0\0\0\0\x01\0\0\0\x2f\x02\0\0\0\x02\x01\0\0\0\0\0\0\0\0\0\x01\0\x03\x01\0\0\0\x01A\0\0\x01\0\0\0\0\0\0\0\0\0\x02\0\x03\x01\0\0\0\x01B\0\0\0";
 
 // Whether runs in an empty folder leave these bytes on one side.
-fn leaves(alloc: Global, runs: &[Run], second: bool, want: &[u8]) -> Mem<bool> {
-    match go_all(alloc, runs)? {
+fn leaves<R: Threads + Wait + Sync>(
+    rt: &R,
+    alloc: Global,
+    runs: &[Run],
+    second: bool,
+    want: &[u8],
+) -> Mem<bool> {
+    match go_all(rt, alloc, runs)? {
         Some(mut disks) if second => Ok(reads(&mut disks.b, want)),
         Some(mut disks) => Ok(reads(&mut disks.a, want)),
         None => Ok(false),
@@ -148,7 +169,10 @@ fn leaves(alloc: Global, runs: &[Run], second: bool, want: &[u8]) -> Mem<bool> {
 #[test]
 fn a_first_run_makes_side_a(rt: HostRuntime) -> Result<(), Fail> {
     assert_eq!(rt; OPENED.len(), 124);
-    assert_eq!(rt; leaves(rt.alloc(), &NO_MESSAGE, false, OPENED), Ok(true));
+    assert_eq!(rt;
+        leaves(&rt, rt.alloc(), &NO_MESSAGE, false, OPENED),
+        Ok(true)
+    );
     Ok(())
 }
 
@@ -225,7 +249,7 @@ static LOCKS: [Run; 2] = [
 
 #[test]
 fn locks_end_with_their_run(rt: HostRuntime) -> Result<(), Fail> {
-    assert_eq!(rt; come_to(rt.alloc(), &LOCKS, 283, 0), Ok(true));
+    assert_eq!(rt; come_to(&rt, rt.alloc(), &LOCKS, 283, 0), Ok(true));
     Ok(())
 }
 
@@ -280,7 +304,7 @@ static STORED: [Run; 2] = [
 
 #[test]
 fn stored_queries_are_there_in_the_next_run(rt: HostRuntime) -> Result<(), Fail> {
-    assert_eq!(rt; go_on(rt.alloc(), &STORED), Ok(true));
+    assert_eq!(rt; go_on(&rt, rt.alloc(), &STORED), Ok(true));
     Ok(())
 }
 
@@ -306,7 +330,7 @@ static CHECKED: [Run; 3] = [
 
 #[test]
 fn a_check_tells_what_is_there(rt: HostRuntime) -> Result<(), Fail> {
-    assert_eq!(rt; come_to(rt.alloc(), &CHECKED, 176, 0), Ok(true));
+    assert_eq!(rt; come_to(&rt, rt.alloc(), &CHECKED, 176, 0), Ok(true));
     Ok(())
 }
 
@@ -327,12 +351,12 @@ static COMPACTED: [Run; 4] = [
 fn a_journal_is_made_shorter(rt: HostRuntime) -> Result<(), Fail> {
     assert_eq!(rt; CHECKPOINT.len(), 109);
     assert_eq!(rt;
-        leaves(rt.alloc(), &COMPACTED[..3], true, CHECKPOINT),
+        leaves(&rt, rt.alloc(), &COMPACTED[..3], true, CHECKPOINT),
         Ok(true),
         "side b"
     );
     assert_eq!(rt;
-        come_to(rt.alloc(), &COMPACTED, 283, 216),
+        come_to(&rt, rt.alloc(), &COMPACTED, 283, 216),
         Ok(true),
         "the next run"
     );
@@ -366,14 +390,14 @@ static OF_FOUR: [Run; 2] = [
     ),
 ];
 
-fn go_on(alloc: Global, runs: &[Run]) -> Mem<bool> {
-    Ok(go_all(alloc, runs)?.is_some())
+fn go_on<R: Threads + Wait + Sync>(rt: &R, alloc: Global, runs: &[Run]) -> Mem<bool> {
+    Ok(go_all(rt, alloc, runs)?.is_some())
 }
 
 #[test]
 fn a_drill_tells_what_it_came_to(rt: HostRuntime) -> Result<(), Fail> {
-    assert_eq!(rt; go_on(rt.alloc(), &OF_THREE), Ok(true), "three rounds");
-    assert_eq!(rt; go_on(rt.alloc(), &OF_FOUR), Ok(true), "four");
+    assert_eq!(rt; go_on(&rt, rt.alloc(), &OF_THREE), Ok(true), "three rounds");
+    assert_eq!(rt; go_on(&rt, rt.alloc(), &OF_FOUR), Ok(true), "four");
     Ok(())
 }
 
@@ -391,8 +415,8 @@ static REFUSED: [(&[&str], u8, &str); 12] = [
     ),
     (
         &["serve", "--workers=2", "d", "--listen", "127.0.0.1:0"],
-        2,
-        "wfsd: bad words\n",
+        6,
+        "wfsd: not a journal: a 1\n",
     ),
     (&["drill", "0", "d"], 2, "wfsd: bad words\n"),
     (&["drill", "100001", "d"], 2, "wfsd: bad words\n"),
@@ -415,17 +439,21 @@ fn is_refusal(held: (Left, MemSink), status: u8, line: &str) -> bool {
     }
 }
 
-fn is_refused(alloc: Global, row: &(&[&str], u8, &str)) -> Mem<bool> {
+fn is_refused<R: Threads + Wait + Sync>(
+    rt: &R,
+    alloc: Global,
+    row: &(&[&str], u8, &str),
+) -> Mem<bool> {
     let ready = make_ready(alloc, row.0, SCHEMA, "", &[], 1_000)?;
     let a = disk_with(alloc, FOREIGN, &[], None)?;
     let b = disk_with(alloc, b"", &[], None)?;
-    Ok(is_refusal(hold(alloc, ready, Pair { a, b }), row.1, row.2))
+    Ok(is_refusal(hold(rt, alloc, ready, Pair { a, b }), row.1, row.2))
 }
 
 // The first row of `REFUSED` of which something else comes.
-fn refused_otherwise(alloc: Global) -> Mem<Option<usize>> {
+fn refused_otherwise<R: Threads + Wait + Sync>(rt: &R, alloc: Global) -> Mem<Option<usize>> {
     for i in 0..REFUSED.len() {
-        if !is_refused(alloc, &REFUSED[i])? {
+        if !is_refused(rt, alloc, &REFUSED[i])? {
             return Ok(Some(i));
         }
     }
@@ -435,7 +463,7 @@ fn refused_otherwise(alloc: Global) -> Mem<Option<usize>> {
 #[test]
 fn words_come_before_the_journal(rt: HostRuntime) -> Result<(), Fail> {
     assert_eq!(rt; FOREIGN.len(), 17);
-    assert_eq!(rt; refused_otherwise(rt.alloc()), Ok(None));
+    assert_eq!(rt; refused_otherwise(&rt, rt.alloc()), Ok(None));
     Ok(())
 }
 
@@ -449,10 +477,16 @@ fn says(held: (Left, MemSink), status: u8, line: &str) -> bool {
 }
 
 // Whether a run on the files of two marks with this schema comes to a status and a line.
-fn says_of_two(alloc: Global, schema: &str, status: u8, line: &str) -> Mem<bool> {
+fn says_of_two<R: Threads + Wait + Sync>(
+    rt: &R,
+    alloc: Global,
+    schema: &str,
+    status: u8,
+    line: &str,
+) -> Mem<bool> {
     let ready = make_ready(alloc, TALK, schema, "", &[], 1_000)?;
-    Ok(match go_all(alloc, &[TWO])? {
-        Some(disks) => says(hold(alloc, ready, disks), status, line),
+    Ok(match go_all(rt, alloc, &[TWO])? {
+        Some(disks) => says(hold(rt, alloc, ready, disks), status, line),
         None => false,
     })
 }
@@ -461,25 +495,30 @@ fn says_of_two(alloc: Global, schema: &str, status: u8, line: &str) -> Mem<bool>
 fn a_journal_of_another_schema_is_refused(rt: HostRuntime) -> Result<(), Fail> {
     let alloc = rt.alloc();
     assert_eq!(rt;
-        says_of_two(alloc, OTHER_SCHEMA, 6, "wfsd: not of this schema: 0\n"),
+        says_of_two(&rt, alloc, OTHER_SCHEMA, 6, "wfsd: not of this schema: 0\n"),
         Ok(true)
     );
     assert_eq!(rt;
-        says_of_two(alloc, "=", 3, "wfsd: schema refused: NotToml\n"),
+        says_of_two(&rt, alloc, "=", 3, "wfsd: schema refused: NotToml\n"),
         Ok(true)
     );
     Ok(())
 }
 
 // Whether a command with so little room for its line ends with status 7 behind a front of it.
-fn is_cut_off(alloc: Global, command: &str, front: &str) -> Mem<bool> {
-    let (end, out) = run(alloc, &[command, "d"], SCHEMA, "", &[], 3)?;
+fn is_cut_off<R: Threads + Wait + Sync>(
+    rt: &R,
+    alloc: Global,
+    command: &str,
+    front: &str,
+) -> Mem<bool> {
+    let (end, out) = run(rt, alloc, &[command, "d"], SCHEMA, "", &[], 3)?;
     Ok(end.0 == 7 && out.bytes() == front.as_bytes())
 }
 
 #[test]
 fn a_line_that_fails_has_its_status(rt: HostRuntime) -> Result<(), Fail> {
-    assert_eq!(rt; is_cut_off(rt.alloc(), "check", "typ"), Ok(true));
-    assert_eq!(rt; is_cut_off(rt.alloc(), "compact", "sid"), Ok(true));
+    assert_eq!(rt; is_cut_off(&rt, rt.alloc(), "check", "typ"), Ok(true));
+    assert_eq!(rt; is_cut_off(&rt, rt.alloc(), "compact", "sid"), Ok(true));
     Ok(())
 }

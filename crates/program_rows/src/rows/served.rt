@@ -242,24 +242,29 @@ fn add_all_outputs(text: &mut String) -> Mem<()> {
 }
 
 // Whether a session over this input, each message at its moment, comes to this output.
-fn comes_to(alloc: Global, input: &str, output: &str) -> Mem<bool> {
+fn comes_to<R: Threads + Wait + Sync>(
+    rt: &R,
+    alloc: Global,
+    input: &str,
+    output: &str,
+) -> Mem<bool> {
     let clock = ListClock::new(Vec::from_slice(alloc, &MOMENTS)?);
     let words = &["talk", "d"];
     let ready = make_ready_at(alloc, clock, words, SCHEMA, input, &[], 40_000)?;
-    let (end, out) = go_empty(alloc, ready)?;
+    let (end, out) = go_empty(rt, alloc, ready)?;
     Ok(end.0 == 0 && out.bytes() == output.as_bytes())
 }
 
 // Whether a session over all messages comes to all answers.
-fn is_served(alloc: Global) -> Mem<bool> {
+fn is_served<R: Threads + Wait + Sync>(rt: &R, alloc: Global) -> Mem<bool> {
     let mut input = String::new(alloc);
     add_all_inputs(&mut input)?;
     let mut output = String::new(alloc);
     add_all_outputs(&mut output)?;
-    comes_to(alloc, input.as_str(), output.as_str())
+    comes_to(rt, alloc, input.as_str(), output.as_str())
 }
 
 #[test]
 fn every_operation_is_served(rt: HostRuntime) {
-    assert_eq!(rt; is_served(rt.alloc()), Ok(true));
+    assert_eq!(rt; is_served(&rt, rt.alloc()), Ok(true));
 }

@@ -3,7 +3,8 @@
 use super::*;
 
 // Whether a session over an input whose listed takes fail, with an output of so many bytes, comes to an end and to an output.
-fn comes_to(
+fn comes_to<R: Threads + Wait + Sync>(
+    rt: &R,
     alloc: Global,
     input: &str,
     failing: &[u64],
@@ -11,17 +12,24 @@ fn comes_to(
     end: End,
     output: &str,
 ) -> Mem<bool> {
-    let (found, out) = run(alloc, &["talk", "d"], SCHEMA, input, failing, room)?;
+    let (found, out) = run(rt, alloc, &["talk", "d"], SCHEMA, input, failing, room)?;
     Ok(found == end && out.bytes() == output.as_bytes())
 }
 
-fn is_answered(alloc: Global, input: &str, end: End, answers: &[Answer]) -> Mem<bool> {
+fn is_answered<R: Threads + Wait + Sync>(
+    rt: &R,
+    alloc: Global,
+    input: &str,
+    end: End,
+    answers: &[Answer],
+) -> Mem<bool> {
     let output = answers_of(alloc, answers)?;
-    comes_to(alloc, input, &[], 20_000, end, output.as_str())
+    comes_to(rt, alloc, input, &[], 20_000, end, output.as_str())
 }
 
 // Whether a session over some messages comes to a status, to entries and to these answers.
-fn talks(
+fn talks<R: Threads + Wait + Sync>(
+    rt: &R,
     alloc: Global,
     messages: &[Message],
     status: u8,
@@ -29,7 +37,7 @@ fn talks(
     answers: &[Answer],
 ) -> Mem<bool> {
     let input = messages_of(alloc, messages)?;
-    is_answered(alloc, input.as_str(), (status, Some(entries)), answers)
+    is_answered(rt, alloc, input.as_str(), (status, Some(entries)), answers)
 }
 
 const MARK_2: &str =
@@ -61,7 +69,7 @@ static INSERTED_AND_FOUND: [Answer; 3] = [
 fn what_is_inserted_is_read_on_the_same_connection(rt: HostRuntime) {
     assert_eq!(rt; INSERTED.len(), 549);
     assert_eq!(rt;
-        talks(rt.alloc(), &INSERT_AND_ASK, 0, 1, &INSERTED_AND_FOUND),
+        talks(&rt, rt.alloc(), &INSERT_AND_ASK, 0, 1, &INSERTED_AND_FOUND),
         Ok(true)
     );
 }
@@ -90,7 +98,10 @@ static POINT_OUT: [Answer; 2] = [
 
 #[test]
 fn a_point_goes_in_and_comes_out(rt: HostRuntime) {
-    assert_eq!(rt; talks(rt.alloc(), &POINT_IN, 0, 1, &POINT_OUT), Ok(true));
+    assert_eq!(rt;
+        talks(&rt, rt.alloc(), &POINT_IN, 0, 1, &POINT_OUT),
+        Ok(true)
+    );
 }
 
 static HITS: [Message; 1] = [(
@@ -108,7 +119,7 @@ static NO_HITS: [Answer; 1] = [(
 #[test]
 fn hits_of_nothing(rt: HostRuntime) {
     assert_eq!(rt; length_of(NO_HITS[0].3), 253);
-    assert_eq!(rt; talks(rt.alloc(), &HITS, 0, 0, &NO_HITS), Ok(true));
+    assert_eq!(rt; talks(&rt, rt.alloc(), &HITS, 0, 0, &NO_HITS), Ok(true));
 }
 
 // What a message is refused by: the message, the status and phrase, the code, the locator and the text.
@@ -166,16 +177,19 @@ static REFUSED: [Refused; 6] = [
 ];
 
 // Whether a message is refused so, and leaves no entry.
-fn is_refused(alloc: Global, row: &Refused) -> Mem<bool> {
+fn is_refused<R: Threads + Wait + Sync>(rt: &R, alloc: Global, row: &Refused) -> Mem<bool> {
     let (input, status, code, locator, text) = *row;
     let output = refusal(alloc, status, code, locator, text)?;
-    comes_to(alloc, input, &[], 20_000, (0, Some(0)), output.as_str())
+    comes_to(rt, alloc, input, &[], 20_000, (0, Some(0)), output.as_str())
 }
 
 // The first message of `REFUSED` that is answered otherwise.
-fn answered_otherwise(alloc: Global) -> Mem<Option<&'static str>> {
+fn answered_otherwise<R: Threads + Wait + Sync>(
+    rt: &R,
+    alloc: Global,
+) -> Mem<Option<&'static str>> {
     for row in REFUSED.iter() {
-        if !is_refused(alloc, row)? {
+        if !is_refused(rt, alloc, row)? {
             return Ok(Some(row.0));
         }
     }
@@ -184,7 +198,7 @@ fn answered_otherwise(alloc: Global) -> Mem<Option<&'static str>> {
 
 #[test]
 fn messages_are_refused_by_their_first_fault(rt: HostRuntime) {
-    assert_eq!(rt; answered_otherwise(rt.alloc()), Ok(None));
+    assert_eq!(rt; answered_otherwise(&rt, rt.alloc()), Ok(None));
 }
 
 // Two Inserts, of which the first asks that the connection be closed.
@@ -215,9 +229,13 @@ static BAD_HEAD_REFUSED: [Answer; 1] = [(
 #[test]
 fn a_session_ends_with_the_answer_that_closes_it(rt: HostRuntime) {
     let alloc = rt.alloc();
-    assert_eq!(rt; talks(alloc, &CLOSING, 0, 1, &CLOSED), Ok(true), "closed");
     assert_eq!(rt;
-        talks(alloc, &BAD_HEAD, 12, 0, &BAD_HEAD_REFUSED),
+        talks(&rt, alloc, &CLOSING, 0, 1, &CLOSED),
+        Ok(true),
+        "closed"
+    );
+    assert_eq!(rt;
+        talks(&rt, alloc, &BAD_HEAD, 12, 0, &BAD_HEAD_REFUSED),
         Ok(true),
         "bad head"
     );
@@ -258,7 +276,7 @@ static LOCKED_AND_REFUSED: [Answer; 3] = [
 #[test]
 fn a_locked_feature_is_not_locked_again(rt: HostRuntime) {
     assert_eq!(rt;
-        talks(rt.alloc(), &LOCKING, 0, 3, &LOCKED_AND_REFUSED),
+        talks(&rt, rt.alloc(), &LOCKING, 0, 3, &LOCKED_AND_REFUSED),
         Ok(true)
     );
 }
@@ -278,7 +296,10 @@ static CONTINUED: [Answer; 2] = [
 
 #[test]
 fn a_body_is_asked_for_and_a_message_may_be_cut(rt: HostRuntime) {
-    assert_eq!(rt; talks(rt.alloc(), &EXPECTING, 10, 1, &CONTINUED), Ok(true));
+    assert_eq!(rt;
+        talks(&rt, rt.alloc(), &EXPECTING, 10, 1, &CONTINUED),
+        Ok(true)
+    );
 }
 
 // Words, a schema, and the status and the line that a run over them comes to.
@@ -295,17 +316,24 @@ static LINES: [(&[&str], &str, u8, &str); 4] = [
 ];
 
 // Whether a run over this schema and an input comes to a status and an output, and holds no session.
-fn says(alloc: Global, words: &[&str], schema: &str, status: u8, line: &str) -> Mem<bool> {
+fn says<R: Threads + Wait + Sync>(
+    rt: &R,
+    alloc: Global,
+    words: &[&str],
+    schema: &str,
+    status: u8,
+    line: &str,
+) -> Mem<bool> {
     let input = "GET / HTTP/1.1\r\n\r\n";
-    let (end, out) = run(alloc, words, schema, input, &[], 1_000)?;
+    let (end, out) = run(rt, alloc, words, schema, input, &[], 1_000)?;
     Ok(end == (status, None) && out.bytes() == line.as_bytes())
 }
 
 // The first row of `LINES` of which something else comes.
-fn said_otherwise(alloc: Global) -> Mem<Option<usize>> {
+fn said_otherwise<R: Threads + Wait + Sync>(rt: &R, alloc: Global) -> Mem<Option<usize>> {
     for i in 0..LINES.len() {
         let (words, schema, status, line) = LINES[i];
-        if !says(alloc, words, schema, status, line)? {
+        if !says(rt, alloc, words, schema, status, line)? {
             return Ok(Some(i));
         }
     }
@@ -314,7 +342,7 @@ fn said_otherwise(alloc: Global) -> Mem<Option<usize>> {
 
 #[test]
 fn words_and_schemas_are_refused_by_a_line(rt: HostRuntime) {
-    assert_eq!(rt; said_otherwise(rt.alloc()), Ok(None));
+    assert_eq!(rt; said_otherwise(&rt, rt.alloc()), Ok(None));
 }
 
 static TWO: [Message; 1] = [("", TWO_MARKS)];
@@ -322,9 +350,17 @@ static TWO: [Message; 1] = [("", TWO_MARKS)];
 static TWO_INSERTED: [Answer; 1] = [("200 OK", "text/xml", "", &[INSERTED])];
 
 // Whether a session that inserts two marks, with faults of its ends, leaves their entry and comes to this status and output.
-fn ends_with(alloc: Global, failing: &[u64], room: u64, status: u8, output: &str) -> Mem<bool> {
+fn ends_with<R: Threads + Wait + Sync>(
+    rt: &R,
+    alloc: Global,
+    failing: &[u64],
+    room: u64,
+    status: u8,
+    output: &str,
+) -> Mem<bool> {
     let input = messages_of(alloc, &TWO)?;
     comes_to(
+        rt,
         alloc,
         input.as_str(),
         failing,
@@ -334,13 +370,16 @@ fn ends_with(alloc: Global, failing: &[u64], room: u64, status: u8, output: &str
     )
 }
 
-fn ends_behind_its_answer(alloc: Global) -> Mem<bool> {
+fn ends_behind_its_answer<R: Threads + Wait + Sync>(rt: &R, alloc: Global) -> Mem<bool> {
     let output = answers_of(alloc, &TWO_INSERTED)?;
-    ends_with(alloc, &[1, 2, 3], 9_000, 4, output.as_str())
+    ends_with(rt, alloc, &[1, 2, 3], 9_000, 4, output.as_str())
 }
 
 #[test]
 fn faults_of_the_ends_have_their_status(rt: HostRuntime) {
-    assert_eq!(rt; ends_with(rt.alloc(), &[], 9, 7, "HTTP/1.1 "), Ok(true));
-    assert_eq!(rt; ends_behind_its_answer(rt.alloc()), Ok(true));
+    assert_eq!(rt;
+        ends_with(&rt, rt.alloc(), &[], 9, 7, "HTTP/1.1 "),
+        Ok(true)
+    );
+    assert_eq!(rt; ends_behind_its_answer(&rt, rt.alloc()), Ok(true));
 }

@@ -63,19 +63,19 @@ fn repairs(held: (Left, MemSink), wanted: &[u8]) -> Option<bool> {
 
 // Whether a session in which this call of side a's disk fails answers the first Insert by a store fault; then nothing is there,
 // and the same Insert has the first number.
-fn is_repaired(alloc: Global, call: u64) -> Mem<Option<bool>> {
+fn is_repaired<R: Threads + Wait + Sync>(rt: &R, alloc: Global, call: u64) -> Mem<Option<bool>> {
     let wanted = answers_of(alloc, &[FAULT, NO_HITS, ONE_INSERTED])?;
     let ready = ready_for(alloc, &["talk", "d"], &[ONE_MARK, HITS, ONE_MARK])?;
     let disks = failing(alloc, &[call], None)?;
-    Ok(repairs(hold(alloc, ready, disks), wanted.as_bytes()))
+    Ok(repairs(hold(rt, alloc, ready, disks), wanted.as_bytes()))
 }
 
 // How many of the calls make the first Insert a store fault, and whether each is repaired.
-fn repaired(alloc: Global) -> Mem<(u64, bool)> {
+fn repaired<R: Threads + Wait + Sync>(rt: &R, alloc: Global) -> Mem<(u64, bool)> {
     let mut count: u64 = 0;
     let mut is_so = true;
     for call in 0..60 {
-        if let Some(is_right) = is_repaired(alloc, call)? {
+        if let Some(is_right) = is_repaired(rt, alloc, call)? {
             count = count.saturating_add(1);
             is_so = is_so && is_right;
         }
@@ -86,7 +86,7 @@ fn repaired(alloc: Global) -> Mem<(u64, bool)> {
 #[test]
 fn a_store_fault_leaves_nothing(rt: HostRuntime) -> Result<(), Fail> {
     // an append writes, syncs, writes its gate and syncs
-    assert_eq!(rt; repaired(rt.alloc()), Ok((4, true)));
+    assert_eq!(rt; repaired(&rt, rt.alloc()), Ok((4, true)));
     Ok(())
 }
 
@@ -102,10 +102,15 @@ fn crashed(left: Left, keep: u32) -> Option<Pair<MemDisk>> {
 }
 
 // The output of a run on these disks.
-fn output_on(alloc: Global, ready: Ready, disks: Option<Pair<MemDisk>>) -> Option<MemSink> {
+fn output_on<R: Threads + Wait + Sync>(
+    rt: &R,
+    alloc: Global,
+    ready: Ready,
+    disks: Option<Pair<MemDisk>>,
+) -> Option<MemSink> {
     match disks {
         Some(disks) => {
-            let (_, out) = hold(alloc, ready, disks);
+            let (_, out) = hold(rt, alloc, ready, disks);
             Some(out)
         }
         None => None,
@@ -113,13 +118,21 @@ fn output_on(alloc: Global, ready: Ready, disks: Option<Pair<MemDisk>>) -> Optio
 }
 
 // What the next run finds when side a's disk stopped at a call: whether the Insert was answered, and the line of a check.
-fn next_run(alloc: Global, stop: u64, keep: u32) -> Mem<(bool, Option<MemSink>)> {
+fn next_run<R: Threads + Wait + Sync>(
+    rt: &R,
+    alloc: Global,
+    stop: u64,
+    keep: u32,
+) -> Mem<(bool, Option<MemSink>)> {
     let insert = ready_for(alloc, &["talk", "d"], &[ONE_MARK])?;
     let check = ready_for(alloc, &["check", "d"], &[])?;
     let disks = failing(alloc, &[], Some(stop))?;
-    let (left, out) = hold(alloc, insert, disks);
+    let (left, out) = hold(rt, alloc, insert, disks);
     let is_answered = text_of(&out).starts_with("HTTP/1.1 200");
-    Ok((is_answered, output_on(alloc, check, crashed(left, keep))))
+    Ok((
+        is_answered,
+        output_on(rt, alloc, check, crashed(left, keep)),
+    ))
 }
 
 // Whether what was answered is there, and no more than was asked.
@@ -129,8 +142,13 @@ fn is_kept(is_answered: bool, line: &str) -> bool {
             && (line.starts_with("types 3 features 0 ") || line.starts_with("types 3 features 1 "))
 }
 
-fn is_kept_after(alloc: Global, stop: u64, keep: u32) -> Mem<bool> {
-    let (is_answered, line) = next_run(alloc, stop, keep)?;
+fn is_kept_after<R: Threads + Wait + Sync>(
+    rt: &R,
+    alloc: Global,
+    stop: u64,
+    keep: u32,
+) -> Mem<bool> {
+    let (is_answered, line) = next_run(rt, alloc, stop, keep)?;
     Ok(match line {
         Some(line) => is_kept(is_answered, text_of(&line)),
         None => false,
@@ -138,9 +156,9 @@ fn is_kept_after(alloc: Global, stop: u64, keep: u32) -> Mem<bool> {
 }
 
 // The first stop after which an answered Insert is not there, or more is there than was asked.
-fn first_lost(alloc: Global, keep: u32) -> Mem<Option<u64>> {
+fn first_lost<R: Threads + Wait + Sync>(rt: &R, alloc: Global, keep: u32) -> Mem<Option<u64>> {
     for stop in 0..60 {
-        if !is_kept_after(alloc, stop, keep)? {
+        if !is_kept_after(rt, alloc, stop, keep)? {
             return Ok(Some(stop));
         }
     }
@@ -149,8 +167,16 @@ fn first_lost(alloc: Global, keep: u32) -> Mem<Option<u64>> {
 
 #[test]
 fn what_was_acknowledged_is_there(rt: HostRuntime) -> Result<(), Fail> {
-    assert_eq!(rt; first_lost(rt.alloc(), 0), Ok(None), "no write is kept");
-    assert_eq!(rt; first_lost(rt.alloc(), 1), Ok(None), "one write is kept");
+    assert_eq!(rt;
+        first_lost(&rt, rt.alloc(), 0),
+        Ok(None),
+        "no write is kept"
+    );
+    assert_eq!(rt;
+        first_lost(&rt, rt.alloc(), 1),
+        Ok(None),
+        "one write is kept"
+    );
     Ok(())
 }
 
@@ -182,10 +208,10 @@ fn files_of(alloc: Global, disks: Option<Pair<MemDisk>>) -> Mem<Files> {
 }
 
 // The files that a session leaves which inserts one mark.
-fn with_one_mark(alloc: Global) -> Mem<Files> {
+fn with_one_mark<R: Threads + Wait + Sync>(rt: &R, alloc: Global) -> Mem<Files> {
     let insert = ready_for(alloc, &["talk", "d"], &[ONE_MARK])?;
     let disks = empty(alloc)?;
-    let (left, _) = hold(alloc, insert, disks);
+    let (left, _) = hold(rt, alloc, insert, disks);
     files_of(alloc, left.disks)
 }
 
@@ -198,19 +224,28 @@ fn stopping(alloc: Global, files: &Files, second: bool, stop: u64) -> Mem<Pair<M
 }
 
 // The line of a check behind a compact that stopped at a call of one side's disk.
-fn check_behind_a_stop(alloc: Global, second: bool, stop: u64) -> Mem<Option<MemSink>> {
+fn check_behind_a_stop<R: Threads + Wait + Sync>(
+    rt: &R,
+    alloc: Global,
+    second: bool,
+    stop: u64,
+) -> Mem<Option<MemSink>> {
     let compact = ready_for(alloc, &["compact", "d"], &[])?;
     let check = ready_for(alloc, &["check", "d"], &[])?;
-    let files = with_one_mark(alloc)?;
+    let files = with_one_mark(rt, alloc)?;
     let disks = stopping(alloc, &files, second, stop)?;
-    let (left, _) = hold(alloc, compact, disks);
-    Ok(output_on(alloc, check, crashed(left, 0)))
+    let (left, _) = hold(rt, alloc, compact, disks);
+    Ok(output_on(rt, alloc, check, crashed(left, 0)))
 }
 
 // The first stop of a compact behind which the mark is not there.
-fn first_lost_by_compact(alloc: Global, second: bool) -> Mem<Option<u64>> {
+fn first_lost_by_compact<R: Threads + Wait + Sync>(
+    rt: &R,
+    alloc: Global,
+    second: bool,
+) -> Mem<Option<u64>> {
     for stop in 0..40 {
-        match check_behind_a_stop(alloc, second, stop)? {
+        match check_behind_a_stop(rt, alloc, second, stop)? {
             Some(line) if text_of(&line).starts_with("types 3 features 1 queries 0 openings ") => {}
             _ => return Ok(Some(stop)),
         }
@@ -221,26 +256,30 @@ fn first_lost_by_compact(alloc: Global, second: bool) -> Mem<Option<u64>> {
 #[test]
 fn a_stop_of_a_compact_loses_nothing(rt: HostRuntime) -> Result<(), Fail> {
     assert_eq!(rt;
-        first_lost_by_compact(rt.alloc(), false),
+        first_lost_by_compact(&rt, rt.alloc(), false),
         Ok(None),
         "side a"
     );
-    assert_eq!(rt; first_lost_by_compact(rt.alloc(), true), Ok(None), "side b");
+    assert_eq!(rt;
+        first_lost_by_compact(&rt, rt.alloc(), true),
+        Ok(None),
+        "side b"
+    );
     Ok(())
 }
 
 // Whether a first call that fails ends each command with status 5 and its line.
-fn fails(alloc: Global, command: &str) -> Mem<bool> {
+fn fails<R: Threads + Wait + Sync>(rt: &R, alloc: Global, command: &str) -> Mem<bool> {
     let ready = ready_for(alloc, &[command, "d"], &[])?;
     let disks = failing(alloc, &[0], None)?;
-    let (left, out) = hold(alloc, ready, disks);
+    let (left, out) = hold(rt, alloc, ready, disks);
     Ok(end_of(&left) == (5, None) && text_of(&out) == "wfsd: store fault\n")
 }
 
 #[test]
 fn a_disk_that_fails_has_its_status(rt: HostRuntime) -> Result<(), Fail> {
-    assert_eq!(rt; fails(rt.alloc(), "talk"), Ok(true));
-    assert_eq!(rt; fails(rt.alloc(), "check"), Ok(true));
-    assert_eq!(rt; fails(rt.alloc(), "compact"), Ok(true));
+    assert_eq!(rt; fails(&rt, rt.alloc(), "talk"), Ok(true));
+    assert_eq!(rt; fails(&rt, rt.alloc(), "check"), Ok(true));
+    assert_eq!(rt; fails(&rt, rt.alloc(), "compact"), Ok(true));
     Ok(())
 }
