@@ -180,7 +180,7 @@ def plain_writer(folder: str):
 
 def verdict(what: str, ratio: float, most: float) -> bool:
     good = ratio <= most
-    print("%-60s %6.2f (at most %.1f)%s" % (what, ratio, most, "" if good else "  TOO MUCH"))
+    print("%-60s %6.2f (at most %g)%s" % (what, ratio, most, "" if good else "  TOO MUCH"))
     return good
 
 
