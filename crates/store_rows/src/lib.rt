@@ -6,6 +6,8 @@ mod disks;
 #[cfg(test)]
 mod faults;
 #[cfg(test)]
+mod long;
+#[cfg(test)]
 mod pieces;
 #[cfg(test)]
 mod requests;

@@ -32,7 +32,8 @@ pub const HEAD_2: &[u8] = b"\x01WFSJNL\x01\0\0\0\0\0\0\0\x02";
 pub const OPENING_1: &[u8] =
     b"\x01\0\0\0\x66\x01\0\0\0\0\0\0\0\x01\0\0\0\x59Mark(label:text,size:integer,place:point);Field(name:text,area:polygon);Way(course:line);";
 
-const OPENING_2: &[u8] =
+/// The record of the second opening. 107 bytes.
+pub const OPENING_2: &[u8] =
     b"\x01\0\0\0\x66\x01\0\0\0\0\0\0\0\x02\0\0\0\x59Mark(label:text,size:integer,place:point);Field(name:text,area:polygon);Way(course:line);";
 
 const OPENING_3: &[u8] =
@@ -60,8 +61,8 @@ const MARKS_A_B: &[u8] =
 const BASE_2: &[u8] =
     b"\x01\0\0\0\x23\x05\0\0\0\0\0\0\0\x02\0\x03\0\0\0\0\0\0\0\x02\0\0\0\0\0\0\0\0\0\0\0\0\0\0\0\0";
 
-// The gate that ends a side. 1 byte.
-const CLOSED: &[u8] = b"\0";
+/// The gate that ends a side. 1 byte.
+pub const CLOSED: &[u8] = b"\0";
 
 // ---- sides
 
