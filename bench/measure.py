@@ -67,13 +67,19 @@ def least_time(command: list, data: bytes, status: int, runs: int = RUNS) -> flo
 
 @contextlib.contextmanager
 def driver(name: str, crates: list):
-    """The program of `NAME.rt.txt` over these crates, which is proved and built first. It stands below the top of the repository, so that its crates are
-    found, and goes again, since the gate wants no crate but those of crates.txt."""
+    """The program of `NAME.rt.txt` over these crates, which is proved and built first, with the answers in `NAME.proofs` (`.antt.txt`) where it has some. It stands below
+    the top of the repository, so that its crates are found, and goes again, since the gate wants no crate but those of crates.txt."""
     folder = os.path.join(ROOT, "out", name + "_bench")
+    proofs = os.path.join(ROOT, "bench", name + ".proofs")
     deps = ", ".join('"%s"' % (crate if crate.startswith("@") else "//crates/" + crate) for crate in crates)
     try:
         os.makedirs(os.path.join(folder, "src"))
         shutil.copy(os.path.join(ROOT, "bench", name + ".rt.txt"), os.path.join(folder, "src", "main.rt"))
+        for here, _, names in os.walk(proofs):
+            into = os.path.join(folder, "proofs", os.path.relpath(here, proofs))
+            os.makedirs(into, exist_ok=True)
+            for answer in names:
+                shutil.copy(os.path.join(here, answer), os.path.join(into, answer[:-len(".txt")]))
         with open(os.path.join(folder, "BUILD.bazel"), "w", encoding="utf-8") as rules:
             rules.write('load("//bazel/rattle:crate.bzl", "rattle_crate")\n\nrattle_crate(\n    name = "%s_bench",\n    deps = [%s],\n)\n' % (name, deps))
         if subprocess.run(["rt", "run"], cwd=folder, stdout=sys.stderr, check=False).returncode != 0:
