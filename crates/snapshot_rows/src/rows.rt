@@ -1,0 +1,126 @@
+//! Marks that are published and counted. What is expected was worked out by hand.
+
+ghost use Rattle.std.specs.Prelude.{◌≡◌, length};
+ghost use Rattle.wfs_model.specs.Changing.{IsChange};
+ghost use Rattle.wfs_model.specs.Playable.{AreQueriesOf};
+ghost use Rattle.snapshot_reads.specs.Content.{content_of};
+ghost use Rattle.snapshot_reads.specs.Pairs.{schema_in};
+ghost use Rattle.snapshot_reads.specs.Publishers.{given_of, shown_of, IsAbreast};
+
+use feature_versions::Features;
+use marks::{count, insert, schema};
+use snapshot_reads::{Publisher, Viewed, Viewer};
+use std::alloc::Global;
+use std::process::Abort;
+use std::sync::Wait;
+use std::test::Fail;
+use wfs_ends::{Mem, OutOfMemory};
+use wfs_model::{Change, Reply, Request};
+
+mod marks;
+
+/// What a read gave: how many marks and at which front, or the front that is behind.
+#[derive(Clone, Copy, Debug, PartialEq, Eq)]
+enum Found {
+    Marks(u64, u64),
+    Behind(u64),
+    Other,
+}
+
+fn look(alloc: Global, viewer: &mut Viewer, request: &Request) -> Mem<Found>
+    requires { IsChange request.now → ⊥ }
+{
+    Ok(match &viewer.read(alloc, 1000, request)? {
+        Viewed::Answer(Reply::Collection { matched, .. }, front) => Found::Marks(*matched, *front),
+        Viewed::Behind(front) => Found::Behind(*front),
+        _ => Found::Other,
+    })
+}
+
+// Plays a change, where it may be played, and publishes it.
+fn play<R: Wait>(
+    rt: &R,
+    alloc: Global,
+    publisher: &mut Publisher,
+    features: &mut Features,
+    front: u64,
+    change: Change,
+) -> Mem<()>
+    requires next { front ≡ length (given_of publisher.old) }
+    requires schema { features.old.schema ≡ schema_in (given_of publisher.old) }
+    requires queries { AreQueriesOf features.old.schema change }
+    requires alike { IsAbreast publisher.old → content_of features.old ≡ (shown_of publisher.old).content }
+{
+    if !features.accepts(alloc, &change)? {
+        return Err(OutOfMemory);
+    }
+    let same = change.copy(alloc)?;
+    features.reserve(&change)?;
+    features.apply(same);
+    publisher.publish(rt, front, Some(&change), features)
+}
+
+// What a viewer finds before a mark comes, after it, and once it was told a front that is not there yet.
+fn told<R: Wait>(
+    rt: &R,
+    alloc: Global,
+    publisher: &mut Publisher,
+    viewer: &mut Viewer,
+    features: &mut Features,
+    request: &Request,
+) -> Mem<[Found; 3]>
+    requires next { length (given_of publisher.old) ≡ 1 }
+    requires schema { features.old.schema ≡ schema_in (given_of publisher.old) }
+    requires alike { IsAbreast publisher.old → content_of features.old ≡ (shown_of publisher.old).content }
+    requires read { IsChange request.now → ⊥ }
+{
+    let before = look(alloc, viewer, request)?;
+    play(rt, alloc, publisher, features, 1, insert(alloc, 1)?)?;
+    let after = look(alloc, viewer, request)?;
+    viewer.tell(2);
+    let behind = look(alloc, viewer, request)?;
+    Ok([before, after, behind])
+}
+
+// The same by the last of these viewers.
+fn told_to_last<R: Wait>(
+    rt: &R,
+    alloc: Global,
+    publisher: &mut Publisher,
+    viewers: Vec<Option<Viewer>>,
+    features: &mut Features,
+) -> Mem<[Found; 3]>
+    requires next { length (given_of publisher.old) ≡ 1 }
+    requires schema { features.old.schema ≡ schema_in (given_of publisher.old) }
+    requires alike { IsAbreast publisher.old → content_of features.old ≡ (shown_of publisher.old).content }
+{
+    let request = count(alloc)?;
+    let mut viewers = viewers;
+    match viewers.pop() {
+        Some(Some(mut viewer)) => told(rt, alloc, publisher, &mut viewer, features, &request),
+        _ => Err(OutOfMemory),
+    }
+}
+
+fn all_told<R: Wait>(rt: &R, alloc: Global, features: &mut Features) -> Mem<[Found; 3]> {
+    let (mut publisher, viewers) = Publisher::new(rt, alloc, features, 1)?;
+    let all = told_to_last(rt, alloc, &mut publisher, viewers, features);
+    publisher.end(rt);
+    all
+}
+
+fn told_of_marks<R: Wait>(rt: &R, alloc: Global) -> Mem<[Found; 3]> {
+    let schema = schema(alloc)?;
+    let mut features = Features::new(alloc, &schema)?;
+    all_told(rt, alloc, &mut features)
+}
+
+#[test]
+fn a_mark_is_found_once_it_is_published(rt: HostRuntime) -> Result<(), Fail> {
+    let all = told_of_marks(&rt, rt.alloc());
+    assert_eq!(rt;
+        all,
+        Ok([Found::Marks(0, 0), Found::Marks(1, 1), Found::Behind(1)])
+    );
+    Ok(())
+}
