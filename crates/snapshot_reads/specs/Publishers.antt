@@ -1,9 +1,8 @@
 -- What a publisher was given and has published, and what its next call asks.
-use Rattle.std.specs.Prelude.{◌≡◌, true, List, [], Option, IsSome, IsNone}
-use Rattle.std.specs.Option.{IfSome, option_to_list}
+use Rattle.std.specs.Prelude.{◌≡◌, List, Option, IsSome, IsNone}
+use Rattle.std.specs.Option.{option_to_list}
 use Rattle.feature_versions.specs.Holding.{Holding}
 use Rattle.wfs_model.specs.declared.change.Change.{Change}
-use Rattle.wfs_model.specs.Playable.{is_playable, AreQueriesOf}
 use Rattle.wfs_model.specs.Played.{played}
 use Rattle.snapshot_reads.specs.declared.book.Pair.{Pair}
 use Rattle.snapshot_reads.specs.declared.publisher.Publisher.{Publisher}
@@ -28,8 +27,6 @@ IsAbreast p = IsSome p.other
 abbrev pub IsBehind : Publisher → Type 0
 IsBehind p = IsNone p.other
 
--- The features are what a change that may be played makes of what was published; with no change they are the same.
-pub record Follows (change : Option Change) (before : Content) (now : Holding) : Type 0 where
-  pub playable : IfSome change (λ c. is_playable before.schema before.kept c ≡ true)
-  pub queries : IfSome change (AreQueriesOf before.schema)
-  pub kept : now.kept ≡ played before.kept (option_to_list change)
+-- the features are what a change makes of what was published; with no change they are the same
+abbrev pub Follows : Option Change → Content → Holding → Type 0
+Follows change before now = now.kept ≡ played before.kept (option_to_list change)

@@ -1,6 +1,6 @@
 //! What the publisher does with the two copies.
 
-ghost use Rattle.std.specs.Prelude.{◌≡◌, ◌⊎◌, ◌≤◌, ◌<◌, [], true, IfOk, IfSome, IsSome, MatchBool, drop, length};
+ghost use Rattle.std.specs.Prelude.{◌≡◌, ◌⊎◌, ◌≤◌, ◌<◌, [], true, IfOk, IfSome, IsSome, IsTrue, MatchBool, drop, length};
 ghost use Rattle.std.specs.Option.{ForSome, option_copied};
 ghost use Rattle.left_right.specs.Sides.{view};
 ghost use Rattle.wfs_model.specs.Playable.{is_playable, AreQueriesOf};
@@ -209,7 +209,15 @@ fn show_whole<R: Wait>(
     (settle(rt, writer, seen), now.copy(alloc).ok())
 }
 
-/// Publishes a pair: by its change where there is another copy of what is published, else by whole copies. The other copy comes back where all went well.
+// Whether it is known of a change that it may be played.
+fn may_play(alloc: Global, features: &Features, change: &Change) -> bool
+    ensures { IsTrue result → is_playable features.now.schema features.now.kept change.now ≡ true }
+{
+    matches!(features.accepts(alloc, change), Ok(true))
+}
+
+/// Publishes a pair: by its change where there is another copy of what is published on which it may be played, else by whole copies. The other copy
+/// comes back where all went well.
 pub(crate) fn show<R: Wait>(
     rt: &R,
     alloc: Global,
@@ -233,9 +241,17 @@ pub(crate) fn show<R: Wait>(
     let Some(other) = other else {
         return show_whole(rt, alloc, writer, seen, front, now);
     };
+    // it is kept well
+    let _schema = now.schema();
     match change {
         None => show_same(rt, writer, seen, other, front),
-        Some(change) => show_change(rt, alloc, writer, seen, other, front, change, now),
+        Some(change) => {
+            if may_play(alloc, &other, change) {
+                show_change(rt, alloc, writer, seen, other, front, change, now)
+            } else {
+                show_whole(rt, alloc, writer, seen, front, now)
+            }
+        }
     }
 }
 

@@ -143,8 +143,9 @@ impl Publisher {
         self.other.is_none()
     }
 
-    /// Publishes the features at the next front. Where the publisher is not behind, the change goes to each of its two copies. `OutOfMemory`: memory
-    /// ran out, so that the publisher is behind; the next call publishes a whole copy. It waits for those who still read what was published before.
+    /// Publishes the features at the next front. Where the publisher is not behind, the change goes to each of its two copies, once it is seen that it
+    /// may be played. `OutOfMemory`: memory ran out, so that the publisher is behind; the next call publishes a whole copy. It waits for those who
+    /// still read what was published before.
     pub fn publish<R: Wait>(
         &mut self,
         rt: &R,
