@@ -103,6 +103,18 @@ fn texts_copy_as_they_are(rt: HostRuntime) -> Result<(), Fail> {
 }
 
 #[test]
+fn texts_of_fourteen_and_of_fifteen_bytes_are_told_apart(rt: HostRuntime) -> Result<(), Fail> {
+    let alloc = rt.alloc();
+    let shorter = Text::of(alloc, "Grenzstein 123")?;
+    let longer = Text::of_string(String::from_str(alloc, "Grenzstein 1234")?)?;
+    assert_eq!(rt; shorter.copy(alloc)?.as_str(), "Grenzstein 123");
+    assert_eq!(rt; longer.copy(alloc)?.as_str(), "Grenzstein 1234");
+    assert!(rt; shorter != longer);
+    assert!(rt; Text::of(alloc, "")? == Text::of_string(String::new(alloc))?);
+    Ok(())
+}
+
+#[test]
 fn lists_and_boxes_hold_their_items(rt: HostRuntime) -> Result<(), Fail> {
     let alloc = rt.alloc();
     let list = List::of(vec![in alloc; 3u8, 4]?);
