@@ -36,7 +36,7 @@ all_alike (layer ∷ old) (other ∷ new) count each =
 pub alike_features : (old new : List Layered) → AreAlike old new → features_of new ≡ features_of old
 alike_features old new alike = all_alike old new alike.types alike.each
 
-alike_typed : (old new : List Layered) → AreAlike old new → AreTyped old → AreTyped new
+pub alike_typed : (old new : List Layered) → AreAlike old new → AreTyped old → AreTyped new
 alike_typed old new alike typed k d lt =
     let there : k < length old = (let same = alike.types in omega (arith, lt, same)) in
     let one : IsAlike (get_or old k d) (get_or new k d) = alike.each k d there in
@@ -90,10 +90,10 @@ others_stay old new stored (Rows parts) alike roomier is = record {
       let types = alike.types in
       let within : k < length new = omega (arith, lt, length-map new room_of) in
       let there : k < length old = omega (arith, within, types) in
-      let e : Layered = record { kind = 0; features = []; rows = 0; places = 0 } in
+      let e : Layered = record { kind = 0; features = []; rows = 0; places = [] } in
       let was : HasRoom (of_type k (all_put parts)) (room_of (get_or old k e)) = subst (HasRoom (of_type k (all_put parts))) (get_room old k e d there) (is.types k d (omega (arith, there, length-map old room_of))) in
       let more = roomier k e there in
-      subst (HasRoom (of_type k (all_put parts))) (sym (get_room new k e d within)) (record { rows = omega (arith, was.rows, more.rows); places = omega (arith, was.places, more.places) })
+      subst (HasRoom (of_type k (all_put parts))) (sym (get_room new k e d within)) (record { rows = omega (arith, was.rows, more.rows); places = λ place. (let had = was.places place in let has = more.places place in omega (arith, had, has)) })
       );
 }
 
@@ -111,11 +111,11 @@ rows_reserved old new stored parts needs types alike fits needed count met all =
       let same = alike.types in
       let within : k < length new = omega (arith, lt, length-map new room_of) in
       let there : k < length needs = omega (arith, within, same, count) in
-      let e : Layered = record { kind = 0; features = []; rows = 0; places = 0 } in
+      let e : Layered = record { kind = 0; features = []; rows = 0; places = [] } in
       let n : Need = record { rows = 0; boxes = [] } in
       let need = needed k n there in
       let here = met k n e (omega (arith, there, all)) in
-      subst (HasRoom (of_type k (all_put parts))) (sym (get_room new k e d within)) (record { rows = omega (arith, need.rows, here.rows); places = omega (arith, need.places, here.places) })
+      subst (HasRoom (of_type k (all_put parts))) (sym (get_room new k e d within)) (record { rows = omega (arith, need.rows, here.rows); places = λ place. (let wants = need.places place in let has = here.places place in omega (arith, wants, has)) })
       );
 }
 

@@ -11,10 +11,10 @@ use Rattle.feature_values.specs.declared.feature.Feature.{Feature}
 use Rattle.feature_values.specs.declared.feature.Rid.{Rid}
 use Rattle.fes_filter.specs.View.{is_before}
 use Rattle.feature_overlay.specs.Laid.{laid}
-use Rattle.grid_index.specs.Room.{places}
+use Rattle.grid_index.specs.Places.{Place, taking}
 use Rattle.feature_versions.specs.declared.rows.Row.{Row}
 use Rattle.feature_versions.specs.Near.{boxes_of}
-use Rattle.feature_versions.specs.Placed.{places_of}
+use Rattle.feature_versions.specs.Placed.{taken_by}
 use Rattle.feature_versions.specs.Rows.{live_in, live, IsOwn, AreRows}
 use Rattle.feature_versions.proofs.Between.{AllBefore, laid_between}
 use Rattle.feature_versions.proofs.Placing.{rising_at, low_before}
@@ -48,8 +48,8 @@ module _ (rows : List Row) (i : ℕ) (row : Row) (lt : i < length rows) (is : ro
   pub rows_rest : length (live (drop i rows)) ≡ length (live_in row) + length (live (drop (i + 1) rows))
   rows_rest = ap length live_rest ∙ length-append (live_in row) (live (drop (i + 1) rows))
 
-  pub places_rest : sum_by places_of (live (drop i rows)) ≡ sum_by places_of (live_in row) + sum_by places_of (live (drop (i + 1) rows))
-  places_rest = ap (sum_by places_of) live_rest ∙ sum_by-append places_of (live_in row) (live (drop (i + 1) rows))
+  pub places_rest : (place : Place) → sum_by (taken_by place) (live (drop i rows)) ≡ sum_by (taken_by place) (live_in row) + sum_by (taken_by place) (live (drop (i + 1) rows))
+  places_rest place = ap (sum_by (taken_by place)) live_rest ∙ sum_by-append (taken_by place) (live_in row) (live (drop (i + 1) rows))
 
   pub own_at : (kind : ℕ) → AreRows kind rows → IsOwn kind row
   own_at kind are = subst (IsOwn kind) (sym is) (are.own i row lt)
@@ -66,7 +66,7 @@ module _ (rows : List Row) (i : ℕ) (row : Row) (lt : i < length rows) (is : ro
 
 -- ---- the boxes of features
 
--- all boxes take as many places as those of each feature together
-pub boxes_sum : (fs : List Feature) → sum_by places (flat_map boxes_of fs) ≡ sum_by places_of fs
-boxes_sum [] = refl
-boxes_sum (f ∷ fs) = sum_by-append places (boxes_of f) (flat_map boxes_of fs) ∙ ap (λ n. places_of f + n) (boxes_sum fs) ∙ sym (sum_by-cons places_of f fs)
+-- as many of all boxes take a place as of those of each feature together
+pub boxes_sum : (place : Place) (fs : List Feature) → sum_by (taking place) (flat_map boxes_of fs) ≡ sum_by (taken_by place) fs
+boxes_sum place [] = refl
+boxes_sum place (f ∷ fs) = sum_by-append (taking place) (boxes_of f) (flat_map boxes_of fs) ∙ ap (λ n. taken_by place f + n) (boxes_sum place fs) ∙ sym (sum_by-cons (taken_by place) f fs)

@@ -17,10 +17,12 @@ use Rattle.feature_values.specs.declared.feature.Feature.{Feature}
 use Rattle.feature_values.specs.declared.feature.Rid.{Rid}
 use Rattle.fes_filter.specs.View.{is_same, is_value_near, has_near, HasAllNear, IsOnce}
 use Rattle.grid_index.specs.Cells.{is_near as is_cell_near}
+use Rattle.grid_index.specs.Counts.{times}
 use Rattle.grid_index.specs.Near.{Placed, is_among, puts_near, AreNear, IsMet}
 use Rattle.feature_versions.specs.Near.{boxes_in, boxes_of, is_found, most_near}
-use Rattle.feature_versions.specs.Placed.{placed, placed_in, times, HoldsBoxes, IsBoxedIn, AreBoxed, IsBoxed}
-use Rattle.feature_versions.proofs.Counts.{same_is, times-append, times-cons, one_if, pair_self, of_times, same_any}
+use Rattle.feature_versions.specs.Placed.{placed, placed_in, IsBoxedIn, AreBoxed, IsBoxed}
+use Rattle.grid_index.proofs.Counts.{same_is, times-cons, one_of, pair_self}
+use Rattle.feature_versions.proofs.Counts.{times-append, of_times}
 
 -- ---- identifiers
 
@@ -58,8 +60,8 @@ pairs_of_all asked id (f ∷ fs) =
     ∙ ap (λ t. finds asked id f || t) (pairs_of_all asked id fs)
 
 -- what is near by the grid is what the features tell
-among_finds : (asked : Bounds) (pairs : List Placed) (fs : List Feature) (ids : List Rid) → HoldsBoxes pairs fs → AreNear asked pairs ids → (id : Rid) → is_among id ids ≡ list_any (finds asked id) fs
-among_finds asked pairs fs ids holds near id = near.just id ∙ same_any pairs (flat_map placed_in fs) holds (puts_near asked id) ∙ pairs_of_all asked id fs
+among_finds : (asked : Bounds) (fs : List Feature) (ids : List Rid) → AreNear asked (flat_map placed_in fs) ids → (id : Rid) → is_among id ids ≡ list_any (finds asked id) fs
+among_finds asked fs ids near id = near.just id ∙ pairs_of_all asked id fs
 
 -- ---- each identifier once
 
@@ -152,9 +154,9 @@ counted_at kind asked id (f ∷ fs) all h =
     at true false false same is h later = later h
     at false b c same is h later = absurd (let bad = is in cc)
 
-pub found_few : (kind : ℕ) (asked : Bounds) (pairs : List Placed) (fs : List Feature) (ids : List Rid) → HoldsBoxes pairs fs → All (λ f. f.id.kind ≡ kind) fs → AreNear asked pairs ids → length ids ≤ most_near fs kind asked
-found_few kind asked pairs fs ids holds all near =
-    few ids (filter (is_found kind asked) fs) (once ids near.once) (λ id h. counted_at kind asked id fs all (sym (among_finds asked pairs fs ids holds near id) ∙ h))
+pub found_few : (kind : ℕ) (asked : Bounds) (fs : List Feature) (ids : List Rid) → All (λ f. f.id.kind ≡ kind) fs → AreNear asked (flat_map placed_in fs) ids → length ids ≤ most_near fs kind asked
+found_few kind asked fs ids all near =
+    few ids (filter (is_found kind asked) fs) (once ids near.once) (λ id h. counted_at kind asked id fs all (sym (among_finds asked fs ids near id) ∙ h))
 
 pub found_once : (asked : Bounds) (pairs : List Placed) (ids : List Rid) → AreNear asked pairs ids → IsOnce ids
 found_once asked pairs ids near = once ids near.once
@@ -179,7 +181,7 @@ not_apart shape area boxed up h = at (do_meet_box shape area) (are_apart (bounds
     at false true met apart h = absurd (let bad = h in cc)
 
 first_times : (id : Rid) (b : Bounds) (bs : List Bounds) → 0 < times (id, b) (placed id (b ∷ bs))
-first_times id b bs = omega (arith, times-cons (id, b) (id, b) (placed id bs), one_if _ (pair_self (id, b)))
+first_times id b bs = omega (arith, times-cons (id, b) (id, b) (placed id bs), one_of _ (pair_self (id, b)))
 
 later_times : (p : Placed) (id : Rid) (b : Bounds) (bs : List Bounds) → 0 < times p (placed id bs) → 0 < times p (placed id (b ∷ bs))
 later_times p id b bs some = omega (arith, times-cons p (id, b) (placed id bs), some)
@@ -208,10 +210,9 @@ among_all p [] k d lt some = absurd (omega (arith, lt))
 among_all p (f ∷ fs) zero d lt some = omega (arith, times-append p (placed_in f) (flat_map placed_in fs), some)
 among_all p (f ∷ fs) (suc k) d lt some = let more = among_all p fs k d (omega (arith, lt)) some in omega (arith, times-append p (placed_in f) (flat_map placed_in fs), more)
 
-pub found_all : (kind : ℕ) (asked : Bounds) (pairs : List Placed) (fs : List Feature) (ids : List Rid) → HoldsBoxes pairs fs → All AreBoxed fs → IsUpright asked → All (IsMet asked ids) pairs → HasAllNear kind asked fs ids
-found_all kind asked pairs fs ids holds boxed up met k d lt near =
+pub found_all : (kind : ℕ) (asked : Bounds) (fs : List Feature) (ids : List Rid) → All AreBoxed fs → IsUpright asked → All (IsMet asked ids) (flat_map placed_in fs) → HasAllNear kind asked fs ids
+found_all kind asked fs ids boxed up met k d lt near =
     let f : Feature = get_or fs k d in
     let has : has_near asked f ≡ true = (and_parts (f.id.kind == kind) (has_near asked f) near).1 in
     let at : MetIn asked f.id f.values = met_in asked f.id f.values up (boxed k d lt) has in
-    let stands : 0 < times (f.id, at.at) pairs = (let all = among_all (f.id, at.at) fs k d lt at.stands in let same = holds (f.id, at.at) in omega (arith, all, same)) in
-    contains_among f.id ids (of_times (IsMet asked ids) (f.id, at.at) pairs met stands at.meets)
+    contains_among f.id ids (of_times (IsMet asked ids) (f.id, at.at) (flat_map placed_in fs) met (among_all (f.id, at.at) fs k d lt at.stands) at.meets)

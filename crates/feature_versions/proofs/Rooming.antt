@@ -8,11 +8,11 @@ use Rattle.std.proofs.lemmas.List.Elements.{filter-append}
 use Rattle.std.proofs.lemmas.List.Sums.{sum_by-append, sum_by_push}
 use Rattle.std.proofs.lemmas.Bool.Decides.{nat_tests}
 use Rattle.feature_values.specs.declared.feature.Feature.{Feature}
-use Rattle.grid_index.specs.Room.{places}
+use Rattle.grid_index.specs.Places.{taking}
 use Rattle.wfs_model.specs.declared.change.Part.{Part}
 use Rattle.feature_versions.specs.declared.reserving.Need.{Need}
 use Rattle.feature_versions.specs.Near.{boxes_of}
-use Rattle.feature_versions.specs.Placed.{places_of}
+use Rattle.feature_versions.specs.Placed.{taken_by}
 use Rattle.feature_versions.specs.Needs.{IsNeed, AreNeeds}
 use Rattle.feature_versions.specs.Reserved.{of_type, put_in, all_put}
 use Rattle.feature_versions.proofs.Typed.{set_at}
@@ -25,7 +25,12 @@ type_of_push kind features f b is = filter-append (λ g. g.id.kind == kind) feat
 more_needed : (features : List Feature) (f : Feature) (old new : Need) → IsNeed features old → new.rows ≡ old.rows + 1 → new.boxes ≡ old.boxes ++ boxes_of f → IsNeed (features ++ f ∷ []) new
 more_needed features f old new need rows boxes = record {
   rows = (let more = length-append features (f ∷ []) in omega (arith, need.rows, rows, more));
-  places = (let more = ap (sum_by places) boxes ∙ sum_by-append places old.boxes (boxes_of f) in let all = sum_by_push places_of features f in omega (arith, more, all, need.places));
+  places = λ place. (
+      let more = ap (sum_by (taking place)) boxes ∙ sum_by-append (taking place) old.boxes (boxes_of f) in
+      let all = sum_by_push (taken_by place) features f in
+      let had = need.places place in
+      omega (arith, more, all, had)
+      );
 }
 
 -- a feature comes to its type

@@ -8,12 +8,14 @@ use Rattle.std.proofs.lemmas.Bool.Decides.{nat_tests}
 use Rattle.feature_values.specs.declared.feature.Feature.{Feature}
 use Rattle.feature_values.specs.declared.feature.Rid.{Rid}
 use Rattle.feature_overlay.specs.Laid.{laid}
+use Rattle.grid_index.specs.Gridded.{room_at, HasNoLessRoom}
+use Rattle.grid_index.specs.Places.{Place}
 use Rattle.wfs_model.specs.declared.change.Part.{Part}
 use Rattle.wfs_model.specs.declared.change.Part.TheVariants.{Put, Remove}
 use Rattle.wfs_model.specs.State.{Durable}
 use Rattle.wfs_model.specs.Played.{part_played}
 use Rattle.feature_versions.specs.Layer.{Layered}
-use Rattle.feature_versions.specs.Placed.{places_of}
+use Rattle.feature_versions.specs.Placed.{taken_by}
 use Rattle.feature_versions.specs.Reserved.{of_type, all_put, HasRoom}
 use Rattle.feature_versions.specs.Types.{features_of, features_at, AreTyped, room_of, HasRooms, IsWithin, Plays}
 use Rattle.feature_versions.proofs.Typed.{get_none, at_none, features_around, laid_in_type, laid_is_set, set_at, typed_set}
@@ -31,11 +33,11 @@ of_type_other kind f later is = at (f.id.kind == kind) refl
     at false other = rw other refl
 
 -- one feature is put into a type that has room for it and for others
-one_put : (f : Feature) (later : List Feature) (old new : Layered) → HasRoom (f ∷ later) (room_of old) → old.rows ≤ new.rows + 1 → old.places ≤ new.places + places_of f → HasRoom later (room_of new)
-one_put f later old new room rows places = record { rows = omega (arith, room.rows, rows); places = omega (arith, room.places, sum_by-cons places_of f later, places) }
+one_put : (f : Feature) (later : List Feature) (old new : Layered) → HasRoom (f ∷ later) (room_of old) → old.rows ≤ new.rows + 1 → ((place : Place) → room_at old.places place ≤ room_at new.places place + taken_by place f) → HasRoom later (room_of new)
+one_put f later old new room rows places = record { rows = omega (arith, room.rows, rows); places = λ place. (let had = room.places place in let used = places place in omega (arith, had, sum_by-cons (taken_by place) f later, used)) }
 
-less_taken : (later : List Feature) (old new : Layered) → HasRoom later (room_of old) → old.rows ≤ new.rows → old.places ≤ new.places → HasRoom later (room_of new)
-less_taken later old new room rows places = record { rows = omega (arith, room.rows, rows); places = omega (arith, room.places, places) }
+less_taken : (later : List Feature) (old new : Layered) → HasRoom later (room_of old) → old.rows ≤ new.rows → HasNoLessRoom old.places new.places → HasRoom later (room_of new)
+less_taken later old new room rows places = record { rows = omega (arith, room.rows, rows); places = λ place. (let had = room.places place in let has = places place in omega (arith, had, has)) }
 
 -- ---- parts
 
@@ -45,7 +47,7 @@ default (y ∷ xs) zero x d lt is = sym is
 default (y ∷ xs) (suc k) x d lt is = default xs k x d (omega (arith, lt)) is
 
 pub put_plays : (layers : List Layered) (f : Feature) (old new : Layered) → AreTyped layers → f.id.kind < length layers → old ≡ get_or layers f.id.kind old → new.kind ≡ old.kind → new.features ≡ laid old.features f.id (Some f)
-    → old.rows ≤ new.rows + 1 → old.places ≤ new.places + places_of f → Plays (Put f) layers (set layers f.id.kind new)
+    → old.rows ≤ new.rows + 1 → ((place : Place) → room_at old.places place ≤ room_at new.places place + taken_by place f) → Plays (Put f) layers (set layers f.id.kind new)
 put_plays layers f old new typed lt is kind features rows places = record {
   features = laid_is_set layers f.id (Some f) old new typed lt is features;
   typed = typed_set layers f.id (Some f) old new typed lt is kind features (All-cons (λ (g : Feature). g.id.kind ≡ f.id.kind) f [] refl (All-nil (λ (g : Feature). g.id.kind ≡ f.id.kind)));
@@ -63,7 +65,7 @@ put_plays layers f old new typed lt is kind features rows places = record {
 }
 
 pub remove_plays : (layers : List Layered) (id : Rid) (old new : Layered) → AreTyped layers → id.kind < length layers → old ≡ get_or layers id.kind old → new.kind ≡ old.kind → new.features ≡ laid old.features id None
-    → old.rows ≤ new.rows → old.places ≤ new.places → Plays (Remove id) layers (set layers id.kind new)
+    → old.rows ≤ new.rows → HasNoLessRoom old.places new.places → Plays (Remove id) layers (set layers id.kind new)
 remove_plays layers id old new typed lt is kind features rows places = record {
   features = laid_is_set layers id None old new typed lt is features;
   typed = typed_set layers id None old new typed lt is kind features (All-nil (λ (g : Feature). g.id.kind ≡ id.kind));

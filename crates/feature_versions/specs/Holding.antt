@@ -1,12 +1,13 @@
 -- What contracts see of features and of all else that outlives the process, and for how much more of it there is room.
 use Rattle.std.specs.Prelude.{ℕ, List}
 use Rattle.feature_values.specs.declared.schema.Schema.{Schema}
+use Rattle.grid_index.specs.Places.{Place}
 use Rattle.wfs_model.specs.State.{Durable}
 
--- the room in one type: for so many more features, and for so many more places of boxes in its grid
+-- the room in one type: for so many more features, and for so many more boxes in its grid, by place
 pub record TypeRoom : Type 0 where
   pub rows : ℕ
-  pub places : ℕ
+  pub places : List (Place × ℕ)
 
 -- For how much more there is room, so that no memory has to be taken.
 pub record Room : Type 0 where

@@ -1,7 +1,6 @@
 -- The boxes of features in a grid.
-use Rattle.std.specs.Prelude.{◌≡◌, ℕ, Bool, ◌&&◌, IsTrue, List, map, flat_map, All, ⊤}
-use Rattle.std.specs.List.{sum_by, count_by}
-use Rattle.std.specs.Ordering.{int_eq}
+use Rattle.std.specs.Prelude.{◌≡◌, ℕ, IsTrue, List, map, flat_map, All, Option, Some, None, ⊤}
+use Rattle.std.specs.List.{sum_by}
 use Rattle.geom_core.specs.declared.geometry.Geometry.{Geometry}
 use Rattle.geom_core.specs.Plane.{Point, Bounds, IsInBox}
 use Rattle.geom_core.specs.Extents.{IsLeastBox, positions_of, bounds_of, is_covered}
@@ -9,14 +8,14 @@ use Rattle.feature_values.specs.declared.value.Value.{Value}
 use Rattle.feature_values.specs.declared.value.Value.TheVariants.{Shape}
 use Rattle.feature_values.specs.declared.feature.Feature.{Feature}
 use Rattle.feature_values.specs.declared.feature.Rid.{Rid}
-use Rattle.fes_filter.specs.View.{is_same}
+use Rattle.grid_index.specs.Gridded.{Gridded, pairs_at, IsGridOf}
 use Rattle.grid_index.specs.Near.{Placed}
-use Rattle.grid_index.specs.Room.{places}
+use Rattle.grid_index.specs.Places.{Place, taking}
 use Rattle.feature_versions.specs.Near.{boxes_of}
 
--- the places that the boxes of a feature take in a grid
-abbrev pub places_of : Feature → ℕ
-places_of f = sum_by places (boxes_of f)
+-- how many of the boxes of a feature take a place of a grid
+abbrev pub taken_by : Place → Feature → ℕ
+taken_by place f = sum_by (taking place) (boxes_of f)
 
 -- a feature with each of some boxes, and with each that it has
 abbrev pub placed : Rid → List Bounds → List Placed
@@ -25,20 +24,14 @@ placed id boxes = map (λ b. (id, b)) boxes
 abbrev pub placed_in : Feature → List Placed
 placed_in f = placed f.id (boxes_of f)
 
--- ---- how often a pair stands among others
-
-abbrev pub is_point : Point → Point → Bool
-is_point a b = int_eq a.x b.x && int_eq a.y b.y
-
-abbrev pub is_pair : Placed → Placed → Bool
-is_pair p q = is_same p.0 q.0 && (is_point p.1.low q.1.low && is_point p.1.high q.1.high)
-
-abbrev pub times : Placed → List Placed → ℕ
-times p pairs = count_by (is_pair p) pairs
-
 -- a grid holds each box of features as often as they have it, and no other
-abbrev pub HoldsBoxes : List Placed → List Feature → Type 0
-HoldsBoxes pairs features = (p : Placed) → times p pairs ≡ times p (flat_map placed_in features)
+abbrev pub HoldsBoxes : Gridded → List Feature → Type 0
+HoldsBoxes grid features = IsGridOf (pairs_at grid) (flat_map placed_in features)
+
+-- there is a feature, and it has the boxes of another
+abbrev pub HasSameBoxes : Option Feature → Feature → Type 0
+HasSameBoxes None new = ⊥
+HasSameBoxes (Some old) new = boxes_of old ≡ boxes_of new
 
 -- ---- geometries in their boxes
 

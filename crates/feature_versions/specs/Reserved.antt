@@ -7,7 +7,9 @@ use Rattle.wfs_model.specs.declared.change.Part.TheVariants.{Put, Remove}
 use Rattle.wfs_model.specs.declared.change.Change.{Change}
 use Rattle.wfs_model.specs.declared.change.Change.TheVariants.{Rows, Created}
 use Rattle.feature_versions.specs.Holding.{Room, TypeRoom}
-use Rattle.feature_versions.specs.Placed.{places_of}
+use Rattle.grid_index.specs.Gridded.{room_at}
+use Rattle.grid_index.specs.Places.{Place}
+use Rattle.feature_versions.specs.Placed.{taken_by}
 
 -- the features that parts put
 abbrev pub put_in : Part → List Feature
@@ -21,10 +23,10 @@ all_put parts = flat_map put_in parts
 abbrev pub of_type : ℕ → List Feature → List Feature
 of_type kind features = filter (λ f. f.id.kind == kind) features
 
--- a type has room for features: a row for each, and the places of all their boxes
+-- a type has room for features: a row for each, and at each place for those of their boxes that take it
 pub record HasRoom (features : List Feature) (room : TypeRoom) : Type 0 where
   pub rows : length features ≤ room.rows
-  pub places : sum_by places_of features ≤ room.places
+  pub places : (place : Place) → sum_by (taken_by place) features ≤ room_at room.places place
 
 -- each type has room for those of its features that come, and all of them can be counted
 pub record HasRoomForAll (features : List Feature) (room : Room) : Type 0 where

@@ -3,6 +3,7 @@ use Rattle.std.specs.Prelude.{◌≡◌, ℕ, ◌<◌, ◌≤◌, List, ◌++◌
 use Rattle.std.specs.Option.{option_to_list}
 use Rattle.feature_values.specs.declared.feature.Feature.{Feature}
 use Rattle.feature_overlay.specs.Laid.{laid}
+use Rattle.grid_index.specs.Gridded.{HasNoLessRoom}
 use Rattle.wfs_model.specs.declared.change.Part.{Part}
 use Rattle.wfs_model.specs.declared.change.Part.TheVariants.{Put, Remove}
 use Rattle.wfs_model.specs.State.{Durable}
@@ -50,7 +51,7 @@ pub record AreAlike (old new : List Layered) : Type 0 where
 -- no less room
 pub record IsRoomier (old new : Layered) : Type 0 where
   pub rows : old.rows ≤ new.rows
-  pub places : old.places ≤ new.places
+  pub places : HasNoLessRoom old.places new.places
 
 abbrev pub AreRoomier : List Layered → List Layered → Type 0
 AreRoomier old new = (kind : ℕ) (d : Layered) → kind < length old → IsRoomier (get_or old kind d) (get_or new kind d)

@@ -1,17 +1,18 @@
 //! The features of one type: their rows, and a grid of their boxes.
 
-ghost use Rattle.std.specs.Prelude.{◌≡◌, ◌+◌, ◌≤◌, ◌++◌, [], true, Some, None, All, IfOk, OnOk, length, flat_map, slice_get};
+ghost use Rattle.std.specs.Prelude.{◌≡◌, ◌+◌, ◌≤◌, ◌++◌, [], true, Some, None, All, IsTrue, IfOk, OnOk, length, flat_map, slice_get};
 ghost use Rattle.std.specs.List.{sum_by};
 ghost use Rattle.std.specs.Option.{option_copied};
 ghost use Rattle.fes_filter.specs.View.{is_before, feature_at, next_after, HasAllNear, IsOnce};
 ghost use Rattle.feature_overlay.specs.Laid.{laid};
-ghost use Rattle.grid_index.specs.Room.{places};
+ghost use Rattle.grid_index.specs.Gridded.{room_at, HasNoLessRoom};
+ghost use Rattle.grid_index.specs.Places.{Place, taking};
 ghost use Rattle.feature_versions.specs.Near.{boxes_of, most_near};
-ghost use Rattle.feature_versions.specs.Placed.{places_of};
-ghost use Rattle.feature_versions.specs.Rows.{live_in, live, IsOwn};
+ghost use Rattle.feature_versions.specs.Placed.{taken_by, AreBoxed, HasSameBoxes};
+ghost use Rattle.feature_versions.specs.Rows.{live_in, live, IsOwn, AreRows};
 ghost use Rattle.feature_versions.specs.Types.{IsAlike, IsRoomier};
 
-use crate::boxes::{displace, place, push_boxes};
+use crate::boxes::{displace, has_same_boxes, place, push_boxes};
 use crate::rows::{
     Row, feature_behind, feature_from, feature_in, first_live, put, sweep, take_out,
 };
@@ -33,6 +34,18 @@ fn all_boxes(alloc: Global, rows: &[Row]) -> Mem<List<Box2>>
         }
     }
     Ok(List::of(boxes))
+}
+
+// Whether rows have a feature with the identifier and the boxes of another, so that the grid may stay as it is.
+fn is_placed(rows: &[Row], feature: &Feature) -> bool
+    requires { AreRows feature.now.id.kind rows.now }
+    ensures same { IsTrue result → HasSameBoxes (feature_at feature.now.id (live rows.now)) feature.now }
+    ensures boxed { IsTrue result → AreBoxed feature.now }
+{
+    match feature_in(rows, feature.id) {
+        Some(old) => has_same_boxes(old, feature),
+        None => false,
+    }
 }
 
 /// The features of one type, by number.
@@ -57,7 +70,7 @@ impl Model for Layer {
 
     ghost view = { λ l. record { kind = l.kind; features = live l.rows.items; rows = vec_capacity l.rows - vec_len l.rows; places = l.grid.room } };
 
-    ghost invariant = { λ l. IsLayerFrom l.first l.kind l.rows.items l.count l.grid.pairs };
+    ghost invariant = { λ l. IsLayerFrom l.first l.kind l.rows.items l.count l.grid };
 }
 
 impl Layer {
@@ -110,7 +123,7 @@ impl Layer {
         ensures same { IsAlike self.old self.new }
         ensures roomier { IsRoomier self.old self.new }
         ensures rows { OnOk result (more ≤ self.new.rows) }
-        ensures places { OnOk result (sum_by places boxes.now ≤ self.new.places) }
+        ensures places { OnOk result ((place : Place) → sum_by (taking place) boxes.now ≤ room_at self.new.places place) }
     {
         self.rows.reserve(more)?;
         self.grid.reserve(boxes)
@@ -120,12 +133,17 @@ impl Layer {
     pub(crate) fn put(&mut self, feature: Feature)
         requires kind { feature.id.kind ≡ self.old.kind }
         requires rows { 1 ≤ self.old.rows }
-        requires places { places_of feature ≤ self.old.places }
+        requires places { (place : Place) → taken_by place feature ≤ room_at self.old.places place }
         ensures kind { self.new.kind ≡ self.old.kind }
         ensures features { self.new.features ≡ laid self.old.features feature.id (Some feature) }
         ensures rows { self.old.rows ≤ self.new.rows + 1 }
-        ensures places { self.old.places ≤ self.new.places + places_of feature }
+        ensures places { (place : Place) → room_at self.old.places place ≤ room_at self.new.places place + taken_by place feature }
     {
+        if is_placed(self.rows.as_slice(), &feature) {
+            let (_, place) = put(&mut self.rows, feature);
+            self.first = place.min(self.first);
+            return;
+        }
         place(&mut self.grid, &feature);
         let (old, place) = put(&mut self.rows, feature);
         self.first = self.first.min(place);
@@ -141,7 +159,7 @@ impl Layer {
         ensures kind { self.new.kind ≡ self.old.kind }
         ensures features { self.new.features ≡ laid self.old.features id None }
         ensures rows { self.old.rows ≤ self.new.rows }
-        ensures places { self.old.places ≤ self.new.places }
+        ensures places { HasNoLessRoom self.old.places self.new.places }
     {
         if let Some(old) = take_out(&mut self.rows, id) {
             displace(&mut self.grid, &old);
@@ -156,16 +174,23 @@ impl Layer {
         }
     }
 
+    /// Forgets the places of the grid that no box takes any more, if they are more than the others. Room may be lost there.
+    pub(crate) fn sweep(&mut self)
+        ensures { IsAlike self.old self.new }
+    {
+        self.grid.sweep();
+    }
+
     // Puts a copy of the feature of a row behind all others, where it has one. There is room for it.
     fn put_copy(&mut self, alloc: Global, row: &Row) -> Mem<()>
         requires own { IsOwn self.old.kind row.now }
         requires last { All (λ f. is_before f.id (record { kind = self.old.kind; number = row.now.number }) ≡ true) self.old.features }
         requires rows { length (live_in row.now) ≤ self.old.rows }
-        requires places { sum_by places_of (live_in row.now) ≤ self.old.places }
+        requires places { (place : Place) → sum_by (taken_by place) (live_in row.now) ≤ room_at self.old.places place }
         ensures kind { self.new.kind ≡ self.old.kind }
         ensures features { OnOk result (self.new.features ≡ self.old.features ++ live_in row.now) }
         ensures rows { OnOk result (self.old.rows ≤ self.new.rows + length (live_in row.now)) }
-        ensures places { OnOk result (self.old.places ≤ self.new.places + sum_by places_of (live_in row.now)) }
+        ensures places { OnOk result ((place : Place) → room_at self.old.places place ≤ room_at self.new.places place + sum_by (taken_by place) (live_in row.now)) }
     {
         if let Some(feature) = &row.feature {
             self.put(feature.copy(alloc)?);

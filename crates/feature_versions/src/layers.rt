@@ -131,6 +131,15 @@ pub(crate) fn near(layers: &[Layer], alloc: Global, kind: u32, area: &Box2) -> M
     }
 }
 
+/// Forgets the places of the grids that no box takes any more.
+pub(crate) fn sweep(layers: &mut Vec<Layer>)
+    ensures { AreAlike layers.old.items layers.new.items }
+{
+    for kind in 0..layers.len() {
+        layers[kind].sweep();
+    }
+}
+
 /// Puts a feature, for which there is room.
 pub(crate) fn put(layers: &mut Vec<Layer>, feature: Feature)
     requires typed { AreTyped layers.old.items }

@@ -8,7 +8,7 @@ ghost use Rattle.feature_versions.specs.Reserved.{all_put, put_in};
 ghost use Rattle.feature_versions.specs.Types.{features_of, AreTyped, HasRooms, IsWithin, Plays, counted, with_rows};
 
 use crate::layer::Layer;
-use crate::layers::{put, remove};
+use crate::layers::{put, remove, sweep};
 use std::alloc::Global;
 use std::mem::replace;
 use wfs_ends::List;
@@ -66,7 +66,21 @@ fn play_all(layers: &mut Vec<Layer>, counters: &mut [u64], parts: Vec<Part>)
     }
 }
 
-/// Plays changes of single features, in order, where the counters stand in a list. There is room for all that they put.
+// Plays changes of single features, in order, where the counters stand in a list. There is room for all that they put.
+fn play_listed(alloc: Global, layers: &mut Vec<Layer>, counters: &mut List<u64>, parts: List<Part>)
+    requires typed { AreTyped layers.old.items }
+    requires within { All (IsWithin (length layers.old.items)) parts }
+    requires room { HasRooms (all_put parts) layers.old.items }
+    ensures played { (kept : Durable) → with_rows kept (features_of layers.new.items) counters.new ≡ fold part_played (with_rows kept (features_of layers.old.items) counters.old) parts }
+    ensures typed { AreTyped layers.new.items }
+    ensures length { length layers.new.items ≡ length layers.old.items }
+{
+    let mut all = replace(counters, List::of(Vec::new(alloc))).into_items();
+    play_all(layers, all.as_mut_slice(), parts.into_items());
+    *counters = List::of(all);
+}
+
+/// Plays changes of single features, in order. There is room for all that they put, and for nothing else, so that the grids are swept then.
 pub(crate) fn play_rows(
     alloc: Global,
     layers: &mut Vec<Layer>,
@@ -80,7 +94,6 @@ pub(crate) fn play_rows(
     ensures typed { AreTyped layers.new.items }
     ensures length { length layers.new.items ≡ length layers.old.items }
 {
-    let mut all = replace(counters, List::of(Vec::new(alloc))).into_items();
-    play_all(layers, all.as_mut_slice(), parts.into_items());
-    *counters = List::of(all);
+    play_listed(alloc, layers, counters, parts);
+    sweep(layers);
 }

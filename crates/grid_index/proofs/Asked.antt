@@ -5,7 +5,7 @@ use Rattle.std.proofs.lemmas.Int.{ints}
 use Rattle.std.proofs.lemmas.Bool.{cases_Bool, and_parts, and_from, or_left, or_right, not_from_false}
 use Rattle.geom_core.specs.Plane.{Bounds, IsUpright, are_apart}
 use Rattle.grid_index.specs.Cells.{cell_of, is_wide, is_huge, share_cell, is_near}
-use Rattle.grid_index.specs.Lists.{Place, takes, is_asked}
+use Rattle.grid_index.specs.Places.{Place, takes, is_asked}
 use Rattle.grid_index.proofs.Covered.{IsWithin, covers_from, covers_gives, upright_x, upright_y, none_of, each_of}
 
 through : (l h c : ℤ) → int_lt c l ≡ false → int_lt h c ≡ false → int_lt h l ≡ false

@@ -9,9 +9,9 @@ use Rattle.std.proofs.lemmas.Nat.{div_below, mod_below, div-mul-add, mod-mul-add
 use Rattle.geom_core.specs.Plane.{Bounds, IsUpright, are_apart}
 use Rattle.grid_index.specs.Cells.{cell_of, span, cell_count, covers, cell_at, is_wide}
 use Rattle.grid_index.specs.Room.{places}
-use Rattle.grid_index.specs.Lists.{Place, same_place, place_at, takes, is_asked, is_among_first}
+use Rattle.grid_index.specs.Places.{Place, same_place, place_at, takes, is_asked, is_among_first}
 use Rattle.grid_index.proofs.Plain.{both_ways}
-use Rattle.grid_index.proofs.Chains.{place_is, place_self}
+use Rattle.grid_index.proofs.SamePlace.{place_is, place_self}
 use Rattle.grid_index.proofs.Meeting.{cell_keeps}
 
 pub first_of : (n : ℕ) (at : ℕ → Place) (place : Place) (i : ℕ) → i < n → at i ≡ place → is_among_first n at place ≡ true
@@ -71,7 +71,7 @@ upright_y b h = cell_keeps b.high.y b.low.y (le_not_lt _ _ h.y)
 span_some : (l h : ℤ) → 0 < span l h
 span_some l h = omega arith
 
-cell_in : (b : Bounds) (i : ℕ) → IsUpright b → i < cell_count b → covers b (cell_at b i) ≡ true
+pub cell_in : (b : Bounds) (i : ℕ) → IsUpright b → i < cell_count b → covers b (cell_at b i) ≡ true
 unfolding cell_at
 cell_in b i h lt =
     let height : ℕ = span (cell_of b.low.y) (cell_of b.high.y) in
@@ -90,7 +90,7 @@ cell_once b i j e =
     let y : i % height ≡ j % height = same_steps (cell_of b.low.y) _ _ (ap (λ (c : ℤ × ℤ). c.1) e) in
     sym (div-add-mod' i height) ∙ ap (λ (k : ℕ). k * height + i % height) x ∙ ap (λ (k : ℕ). j / height * height + k) y ∙ div-add-mod' j height
 
-cell_numbered : (b : Bounds) (cell : ℤ × ℤ) → covers b cell ≡ true → (i : ℕ) × ((i < cell_count b) × (cell_at b i ≡ cell))
+pub cell_numbered : (b : Bounds) (cell : ℤ × ℤ) → covers b cell ≡ true → (i : ℕ) × ((i < cell_count b) × (cell_at b i ≡ cell))
 unfolding cell_at
 cell_numbered b cell e =
     let h = covers_gives b cell e in
@@ -112,6 +112,28 @@ cell_numbered b cell e =
 
 pub cell_step : (i w h : ℕ) → 0 < h → i < w * h → w ≤ 65_537 → i / h ≤ 65_537
 cell_step i w h some lt bound = let low : i / h < w = div_below i h w some lt in omega arith
+
+zero_steps : (z : ℤ) → z ≡ z +ℤ pos 0
+zero_steps z = grind (arith, ints)
+
+-- the first cell is that of the low corner
+pub first_cell : (b : Bounds) (i : ℕ) → i ≡ 0 → (let p : ℤ × ℤ = (cell_of b.low.x, cell_of b.low.y) in p) ≡ cell_at b i
+unfolding cell_at
+first_cell b i first =
+    let height : ℕ = span (cell_of b.low.y) (cell_of b.high.y) in
+    let some : 0 < height = span_some (cell_of b.low.y) (cell_of b.high.y) in
+    let none : i / height ≡ 0 = ap (λ (k : ℕ). k / height) first ∙ none_div height some in
+    let rest : i % height ≡ 0 = ap (λ (k : ℕ). k % height) first ∙ none_mod height some in
+    pair_is (zero_steps (cell_of b.low.x) ∙ ap (λ (k : ℕ). cell_of b.low.x +ℤ pos k) (sym none)) (zero_steps (cell_of b.low.y) ∙ ap (λ (k : ℕ). cell_of b.low.y +ℤ pos k) (sym rest))
+  where
+    none_div : (h : ℕ) → 0 < h → 0 / h ≡ 0
+    none_div h some = let below : 0 / h < 1 = div_below 0 h 1 some (omega arith) in omega arith
+
+    none_mod : (h : ℕ) → 0 < h → 0 % h ≡ 0
+    none_mod h some = let whole = div-add-mod' 0 h in let none = none_div h some in grind (arith, whole, none)
+
+    pair_is : {u v w z : ℤ} → u ≡ v → w ≡ z → (let p : ℤ × ℤ = (u, w) in p) ≡ (v, z)
+    pair_is e f = λ i. (e i, f i)
 
 -- the cells of a box one after another
 abbrev pub cells : Bounds → ℕ → Place

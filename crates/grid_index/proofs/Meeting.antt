@@ -40,8 +40,8 @@ all_met asked pairs ids h k d lt e =
     let p : Placed = get_or pairs k d in
     h.just p.0 ∙ list_any_at (puts_near asked p.0) pairs k d lt (and_both _ _ (or_last (is_huge asked) (is_wide p.1) (share_cell p.1 asked) (share_met p.1 asked e)) (same_self p.0))
 
-pub near_in : (asked : Bounds) (pairs seen : List Placed) (ids found : List Rid) → pairs ≡ seen → ids ≡ found → AreNear asked seen found → AreNear asked pairs ids
-near_in asked pairs seen ids found e f h = rw (e, f) h
+pub near_in : (asked : Bounds) (pairs : List Placed) (ids found : List Rid) → ids ≡ found → AreNear asked pairs found → AreNear asked pairs ids
+near_in asked pairs ids found e h = rw e h
 
-pub met_in : (asked : Bounds) (pairs seen : List Placed) (ids found : List Rid) → pairs ≡ seen → ids ≡ found → AreNear asked seen found → All (IsMet asked ids) pairs
-met_in asked pairs seen ids found e f h = rw (e, f) (all_met asked seen found h)
+pub met_in : (asked : Bounds) (pairs : List Placed) (ids found : List Rid) → ids ≡ found → AreNear asked pairs found → All (IsMet asked ids) pairs
+met_in asked pairs ids found e h = rw e (all_met asked pairs found h)

@@ -1,105 +1,58 @@
--- How a grid lists its pairs: for each cell, and for the wide list, the numbers of the pairs that place there, from the greatest down.
-use Rattle.std.specs.Prelude.{◌≡◌, ℕ, zero, suc, ℤ, Bool, true, false, ◌&&◌, ◌||◌, not, cond, if◌then◌else◌, nat_eq, nat_lt, nat_le, min, Option, Some, None, is_some}
-use Rattle.std.specs.Ordering.{int_eq}
-use Rattle.std.specs.Option.{option_eq, option_map, option_and_then}
-use Rattle.std.specs.HashMap.{get, spare}
-use Rattle.geom_core.specs.Plane.{Bounds}
-use Rattle.feature_values.specs.declared.feature.Rid.{Rid}
-use Rattle.grid_index.specs.declared.lists.Link.{Link}
+-- The lists of a grid, by place.
+use Rattle.std.specs.Prelude.{◌≡◌, ℕ, ◌-◌, ◌≤◌, List, [], map, Option, Some, None, Vec}
+use Rattle.std.specs.HashMap.{HashMap, get}
+use Rattle.std.specs.Option.{unwrap_or}
+use Rattle.std.specs.Vec.{vec_len, vec_capacity}
 use Rattle.grid_index.specs.declared.lists.Lists.{Lists}
-use Rattle.grid_index.specs.Cells.{is_wide, covers, cell_at}
+use Rattle.grid_index.specs.Near.{Placed}
+use Rattle.grid_index.specs.Places.{Place, same_place}
 
--- a place that a pair takes: in a cell, which has two numbers, or in none, which is the wide list
-abbrev pub Place : Type 0
-Place = Option (ℤ × ℤ)
+module _ {Z : Type 0} where
+  -- the pairs of a list, and for how many more it has room
+  abbrev pub items_of : Vec Placed Z → List Placed
+  items_of list = list.items
 
-abbrev pub same_cell : ℤ × ℤ → ℤ × ℤ → Bool
-same_cell a b = int_eq a.0 b.0 && int_eq a.1 b.1
+  abbrev pub spare_of : Vec Placed Z → ℕ
+  spare_of list = vec_capacity list - vec_len list
 
-abbrev pub same_place : Place → Place → Bool
-same_place a b = option_eq same_cell a b
+  -- the same of a list that there may be
+  abbrev pub listed : Option (Vec Placed Z) → List Placed
+  listed None = []
+  listed (Some list) = items_of list
 
--- a pair of a box takes this place
-abbrev pub takes : Bounds → Place → Bool
-takes b None = is_wide b
-takes b (Some cell) = not (is_wide b) && covers b cell
+  abbrev pub spare : Option (Vec Placed Z) → ℕ
+  spare None = 0
+  spare (Some list) = spare_of list
 
--- a place where pairs near a box are asked for
-abbrev pub is_asked : Bounds → Place → Bool
-is_asked b None = true
-is_asked b (Some cell) = covers b cell
+  -- by place
+  abbrev pub pairs_of_all : List (Place × Vec Placed Z) → List (Place × List Placed)
+  pairs_of_all entries = map (λ e. (e.0, items_of e.1)) entries
 
--- the places that a box takes, by number
-abbrev pub place_at : Bounds → ℕ → Place
-place_at b i = if is_wide b then None else Some (cell_at b i)
+  abbrev pub room_of_all : List (Place × Vec Placed Z) → List (Place × ℕ)
+  room_of_all entries = map (λ e. (e.0, spare_of e.1)) entries
 
--- a place is among the first n of these
-abbrev pub is_among_first : ℕ → (ℕ → Place) → Place → Bool
-is_among_first zero at place = false
-is_among_first (suc n) at place = is_among_first n at place || same_place (at n) place
+abbrev pub all_pairs : Lists → List (Place × List Placed)
+all_pairs lists = pairs_of_all lists.by_place.entries
 
--- a number in a list
-abbrev pub Key : Type 0
-Key = Place × ℕ
+abbrev pub all_room : Lists → List (Place × ℕ)
+all_room lists = room_of_all lists.by_place.entries
 
-abbrev pub same_key : Key → Key → Bool
-same_key a b = same_place a.0 b.0 && nat_eq a.1 b.1
+-- the pairs at a place
+abbrev pub listed_at : Lists → Place → List Placed
+listed_at lists place = listed (get same_place lists.by_place place)
 
--- the feature of the pair of a number, where it takes a place
-abbrev pub id_at : Lists → Key → Option Rid
-id_at lists key = option_map (λ link. link.id) (get same_key lists.links key)
+-- for how many more pairs there is room at a place
+abbrev pub spare_at : Lists → Place → ℕ
+spare_at lists place = spare (get same_place lists.by_place place)
 
--- the pair of a number takes a place
-abbrev pub has : Lists → Place → ℕ → Bool
-has lists place number = is_some (get same_key lists.links (place, number))
+-- each place has the pairs that it had
+abbrev pub AreSame : Lists → Lists → Type 0
+AreSame old new = (place : Place) → listed_at new place ≡ listed_at old place
 
--- the number that a list has after another
-abbrev pub older_at : Lists → Place → ℕ → Option ℕ
-older_at lists place number = option_and_then (λ link. link.older) (get same_key lists.links (place, number))
+-- no place has less room
+abbrev pub IsRoomier : Lists → Lists → Type 0
+IsRoomier old new = (place : Place) → spare_at old place ≤ spare_at new place
 
--- a pair of a list that leads to another after it
-abbrev pub with_older : Option ℕ → Link → Link
-with_older older link = record link { older = older }
-
--- a number is below another, where there is one
-abbrev pub is_below : ℕ → Option ℕ → Bool
-is_below t None = true
-is_below t (Some s) = nat_lt t s
-
--- a number is among those from another down, where there is one
-abbrev pub reaches : Option ℕ → ℕ → Bool
-reaches None t = false
-reaches (Some s) t = nat_le t s
-
--- the greatest number of a list that is below another, or the greatest at all
-pub record IsNext (has : ℕ → Bool) (from : Option ℕ) (next : Option ℕ) : Type 0 where
-  pub at : (n : ℕ) → next ≡ Some n → (has n ≡ true) × (is_below n from ≡ true)
-  pub past : (t : ℕ) → has t ≡ true → is_below t from ≡ true → reaches next t ≡ true
-
--- each number of a list leads to the greatest below it
-pub record IsChain (has : ℕ → Bool) (first : Option ℕ) (older : ℕ → Option ℕ) : Type 0 where
-  pub start : IsNext has None first
-  pub step : (s : ℕ) → has s ≡ true → IsNext has (Some s) (older s)
-
--- each list leads through all its numbers
-abbrev pub AreLinkedBy : (Place → Option ℕ) → (Key → Option Link) → Type 0
-AreLinkedBy first link = (place : Place) → IsChain (λ n. is_some (link (place, n))) (first place) (λ n. option_and_then (λ l. l.older) (link (place, n)))
-
-abbrev pub AreLinked : Lists → Type 0
-AreLinked lists = AreLinkedBy (get same_place lists.newest) (get same_key lists.links)
-
--- for how many more pairs lists have room, each in one list
-abbrev pub list_room : Lists → ℕ
-list_room lists = min (spare lists.newest) (spare lists.links)
-
--- one key gets a value, or loses it, and each other keeps its own
-abbrev pub IsSet : {K X : Type 0} → (K → K → Bool) → (K → Option X) → K → Option X → (K → Option X) → Type 0
-IsSet {K} same old key value new = (k : K) → new k ≡ cond (same key k) value (old k)
-
--- the pair of a key leads to another, and each other pair stays
-abbrev pub IsLed : (Key → Option Link) → Key → Option ℕ → (Key → Option Link) → Type 0
-IsLed old key older new = (k : Key) → new k ≡ cond (same_key key k) (option_map (with_older older) (old k)) (old k)
-
--- the number of a pair gets a feature at each place of a box, or loses it, and all else stays
-abbrev pub IsSetAtEach : Bounds → (Key → Option Rid) → ℕ → Option Rid → (Key → Option Rid) → Type 0
-IsSetAtEach area old number value new = (k : Key) → new k ≡ cond (takes area k.0 && nat_eq number k.1) value (old k)
+-- what is counted at a place
+abbrev pub count_in : {S : Type 0} → HashMap Place ℕ S → Place → ℕ
+count_in counts place = unwrap_or (get same_place counts place) 0

@@ -1,5 +1,5 @@
 -- What a grid holds, and which of it is near a box.
-use Rattle.std.specs.Prelude.{◌≡◌, Bool, true, false, ◌&&◌, ◌==◌, List, ◌∷◌, ◌++◌, All, ◌⊎◌, ◌≢◌}
+use Rattle.std.specs.Prelude.{◌≡◌, Bool, true, false, ◌&&◌, ◌==◌, List}
 use Rattle.std.specs.List.{list_any, IsDistinct}
 use Rattle.geom_core.specs.Plane.{Bounds, are_apart}
 use Rattle.feature_values.specs.declared.feature.Rid.{Rid}
@@ -27,14 +27,3 @@ pub record AreNear (asked : Bounds) (pairs : List Placed) (ids : List Rid) : Typ
 -- a feature is among these, where its box shares a position with another
 abbrev pub IsMet : Bounds → List Rid → Placed → Type 0
 IsMet asked ids placed = are_apart placed.1 asked ≡ false → is_among placed.0 ids ≡ true
-
--- one such pair is taken out, the others keep their order
-pub record IsTakenOut (placed : Placed) (old : List Placed) (new : List Placed) : Type 0 where
-  pub before : List Placed
-  pub after : List Placed
-  pub was : old ≡ before ++ placed ∷ after
-  pub is : new ≡ before ++ after
-
--- one such pair is taken out, or there is none and nothing changes
-abbrev pub IsRemoved : Placed → List Placed → List Placed → Type 0
-IsRemoved placed old new = IsTakenOut placed old new ⊎ (All (λ p. p ≢ placed) old × (new ≡ old))

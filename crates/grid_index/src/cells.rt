@@ -69,12 +69,22 @@ fn above(low: i32, steps: usize) -> i32
     low + steps as i32
 }
 
+// The cell of the low corner. Most boxes cover no other.
+fn first_cell(area: &Box2) -> (i32, i32)
+    ensures { result ≡ (cell_of area.now.low.x, cell_of area.now.low.y) }
+{
+    (cell_of(area.low.x), cell_of(area.low.y))
+}
+
 // The cell of a number among those that a box covers, column by column.
 #[tactic(auto, unfolding(crate::specs::Cells::cell_at))]
 pub fn cell_at(area: &Box2, i: usize) -> (i32, i32)
     requires { i < cell_count area.now }
     ensures { result ≡ cell_at area.now i }
 {
+    if i == 0 {
+        return first_cell(area);
+    }
     let (_columns, rows) = (columns(area), rows(area));
     (
         above(cell_of(area.low.x), i / rows),

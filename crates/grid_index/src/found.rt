@@ -1,10 +1,11 @@
 //! The features found so far, each once.
 
 ghost use Rattle.std.specs.Prelude.{◌≡◌, ◌||◌, [], OnOk};
-ghost use Rattle.grid_index.specs.Found.{AreMarked};
+ghost use Rattle.grid_index.specs.Found.{AreMarked, FindsAlso};
 ghost use Rattle.grid_index.specs.Near.{is_among, is_same};
 
 use feature_values::Rid;
+use geom_core::Box2;
 use std::alloc::Global;
 use std::collections::HashSet;
 use wfs_ends::Mem;
@@ -35,6 +36,18 @@ impl Found {
     {
         if self.marks.insert((id.kind, id.number))? {
             self.ids.push(id)?;
+        }
+        Ok(())
+    }
+
+    // Adds the features of pairs.
+    pub fn add_all(&mut self, pairs: &[(Rid, Box2)]) -> Mem<()>
+        requires { AreMarked self.old.marks self.old.ids.items }
+        ensures marked { OnOk result (AreMarked self.new.marks self.new.ids.items) }
+        ensures finds { OnOk result (FindsAlso pairs.now self.old.ids.items self.new.ids.items) }
+    {
+        for pair in pairs {
+            self.add(pair.0)?;
         }
         Ok(())
     }

@@ -2,7 +2,9 @@
 
 ghost use Rattle.std.specs.Prelude.{◌+◌, ◌≤◌, ◌++◌, ◌∷◌, []};
 ghost use Rattle.geom_core.specs.Plane.{Bounds};
-ghost use Rattle.grid_index.specs.Room.{Gridded, places, IsSpare};
+ghost use Rattle.grid_index.specs.Gridded.{Gridded, room_at};
+ghost use Rattle.grid_index.specs.Places.{taking};
+ghost use Rattle.grid_index.specs.Room.{IsSpare};
 
 /// A law: each box of a spare list is spare by itself.
 pub fn spare_alone()
@@ -11,5 +13,5 @@ pub fn spare_alone()
 
 /// A law: where a list is spare, `add` of a box of it leaves the list without that box once spare.
 pub fn spare_without()
-    ensures { (old new : Gridded) (before after : _) (area : Bounds) → old.room ≤ new.room + places area → IsSpare (before ++ area ∷ after) old → IsSpare (before ++ after) new }
+    ensures { (old new : Gridded) (before after : _) (area : Bounds) → ((place : _) → room_at old.room place ≤ room_at new.room place + taking place area) → IsSpare (before ++ area ∷ after) old → IsSpare (before ++ after) new }
 {}

@@ -7,6 +7,7 @@ mod grid;
 mod laws;
 mod lists;
 mod places;
+mod reserving;
 mod search;
 
 pub use grid::Grid;

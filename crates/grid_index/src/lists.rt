@@ -1,183 +1,150 @@
-//! The pairs that place in each cell, and on the wide list, from the newest to the oldest.
+//! The pairs that stand in each cell, and on the wide list.
 
-ghost use Rattle.std.specs.Prelude.{◌≡◌, ℕ, ◌+◌, ◌<◌, ◌≤◌, true, Some, None, is_some, OnOk, IfSome, IfNone};
-ghost use Rattle.std.specs.HashMap.{get, spare};
+ghost use Rattle.std.specs.Prelude.{◌≡◌, ◌+◌, ◌-◌, ◌≤◌, ◌++◌, ◌∷◌, ◌&&◌, [], None, OnOk, cond};
+ghost use Rattle.std.specs.HashMap.{get};
+ghost use Rattle.std.specs.Vec.{vec_len, vec_capacity};
+ghost use Rattle.grid_index.specs.Counts.{one_if, is_pair, times};
 ghost use Rattle.grid_index.specs.Found.{AreMarked, FindsAlso};
-ghost use Rattle.grid_index.specs.Lists.{same_place, same_key, id_at, has, older_at, AreLinked, list_room, IsSet, IsLed};
+ghost use Rattle.grid_index.specs.Lists.{listed_at, spare_at, AreSame, IsRoomier};
+ghost use Rattle.grid_index.specs.Near.{Placed};
+ghost use Rattle.grid_index.specs.Places.{Place as ThePlace, same_place};
 
 use crate::found::Found;
+use crate::search::index_of;
 use feature_values::Rid;
+use geom_core::Box2;
 use std::alloc::Global;
 use std::collections::HashMap;
-use wfs_ends::Mem;
+use wfs_ends::{Mem, OutOfMemory};
 
 // A place that a pair takes: in a cell, or in none, which is the wide list.
 pub type Place = Option<(i32, i32)>;
 
-// A pair of a list: its feature, and the number of the next older pair there.
-#[derive(Clone, Copy)]
-pub struct Link {
-    pub id: Rid,
-    pub older: Option<u64>,
-}
-
-// For each cell that has pairs the number of its newest one, and each pair of each list.
+// The pairs of each place where there are some, or room for some.
 #[derive(Drop)]
 pub struct Lists {
-    pub newest: HashMap<Place, u64>,
-    pub links: HashMap<(Place, u64), Link>,
+    pub alloc: Global,
+    pub by_place: HashMap<Place, Vec<(Rid, Box2)>>,
+    // how many of the lists have no pairs
+    pub empty: usize,
 }
 
-// Leads a list on to another pair after one of its pairs.
-fn set_older(links: &mut HashMap<(Place, u64), Link>, place: Place, number: u64, older: Option<u64>)
-    requires { is_some (get same_key links.old (place, number)) ≡ true }
-    ensures links { IsLed (get same_key links.old) (place, number) older (get same_key links.new) }
-    ensures room { spare links.new ≡ spare links.old }
+// Adds a pair to a list that has room for it, and tells whether it is the first.
+fn push_on(list: &mut Vec<(Rid, Box2)>, id: Rid, area: Box2) -> bool
+    requires { vec_len list.old + 1 ≤ vec_capacity list.old }
+    ensures items { list.new.items ≡ list.old.items ++ (id, area) ∷ [] }
+    ensures len { vec_len list.new ≡ vec_len list.old + 1 }
+    ensures capacity { vec_capacity list.old ≤ vec_capacity list.new }
 {
-    if let Some(link) = links.get_mut(&(place, number)) {
-        link.older = older;
+    let is_first = list.is_empty();
+    match list.push((id, area)) {
+        Ok(()) => is_first,
+        Err(_) => unreachable!(),
     }
 }
 
-// Lets a list that has pairs begin with another pair, or with none.
-fn set_newest(newest: &mut HashMap<Place, u64>, place: Place, first: Option<u64>)
-    requires { is_some (get same_place newest.old place) ≡ true }
-    ensures newest { IsSet same_place
-        (get same_place newest.old) place first (get same_place newest.new) }
-    ensures room { spare newest.old ≤ spare newest.new }
+// Takes one such pair out of a list, where there is one, and tells whether it was the last.
+fn take_from(list: &mut Vec<(Rid, Box2)>, id: Rid, area: Box2) -> bool
+    ensures pairs { (p : Placed) → times p list.new.items ≡ times p list.old.items - one_if (is_pair p (id, area)) }
+    ensures len { vec_len list.new ≤ vec_len list.old }
+    ensures capacity { vec_capacity list.new ≡ vec_capacity list.old }
 {
-    match first {
-        Some(number) => {
-            if let Some(at) = newest.get_mut(&place) {
-                *at = number;
-            }
+    match index_of(list.as_slice(), id, area) {
+        Some(i) => {
+            list.swap_remove(i);
+            list.is_empty()
         }
-        None => {
-            newest.remove(&place);
-        }
+        None => false,
     }
 }
 
 impl Lists {
     pub fn new(alloc: Global) -> Lists
-        ensures none { (k : _) → id_at result k ≡ None }
-        ensures linked { AreLinked result }
+        ensures { result.by_place.entries ≡ [] }
     {
         Lists {
-            newest: HashMap::new(alloc),
-            links: HashMap::new(alloc),
+            alloc,
+            by_place: HashMap::new(alloc),
+            empty: 0,
         }
     }
 
-    // Makes room for more pairs, each in one list.
-    pub fn reserve(&mut self, more: usize) -> Mem<()>
-        requires { AreLinked self.old }
-        ensures ids { (k : _) → id_at self.new k ≡ id_at self.old k }
-        ensures linked { AreLinked self.new }
-        ensures room { OnOk result (more ≤ list_room self.new) }
-        ensures kept { list_room self.old ≤ list_room self.new }
+    // Begins the list of a place, with room for so many pairs.
+    fn begin(&mut self, place: Place, more: usize) -> Mem<()>
+        requires { get same_place self.old.by_place place ≡ None }
+        ensures same { AreSame self.old self.new }
+        ensures room { OnOk result (more ≤ spare_at self.new place) }
+        ensures kept { IsRoomier self.old self.new }
     {
-        self.newest.reserve(more)?;
-        Ok(self.links.reserve(more)?)
-    }
-
-    // Puts the newest pair of all into a list.
-    pub fn push(&mut self, place: Place, number: u64, id: Rid)
-        requires linked { AreLinked self.old }
-        requires newest { (t : ℕ) → has self.old place t ≡ true → t < number }
-        requires room { 1 ≤ list_room self.old }
-        ensures ids { IsSet same_key (id_at self.old) (place, number) (Some id) (id_at self.new) }
-        ensures linked { AreLinked self.new }
-        ensures room { list_room self.old ≤ list_room self.new + 1 }
-    {
-        let older = self.newest.get(&place).copied();
-        match self.links.insert((place, number), Link { id, older }) {
-            Ok(_) => (),
-            Err(_) => unreachable!(),
-        }
-        match self.newest.insert(place, number) {
-            Ok(_) => (),
-            Err(_) => unreachable!(),
-        }
-    }
-
-    // The pair of a number, and the number after it, where it is in a list.
-    pub fn link(&self, place: Place, number: u64) -> Option<Link>
-        ensures { result ≡ get same_key self.now.links (place, number) }
-    {
-        self.links.get(&(place, number)).copied()
-    }
-
-    // The number of the pair that a list has after another.
-    fn older(&self, place: Place, number: u64) -> Option<u64>
-        ensures { result ≡ older_at self.now place number }
-    {
-        match self.link(place, number) {
-            Some(link) => link.older,
-            None => None,
-        }
-    }
-
-    // The number of the first pair of a list, which is its newest.
-    pub fn first(&self, place: Place) -> Option<u64>
-        ensures { result ≡ get same_place self.now.newest place }
-    {
-        self.newest.get(&place).copied()
-    }
-
-    // The number of the pair that a list has before another.
-    fn newer(&self, place: Place, number: u64) -> Option<u64>
-        requires linked { AreLinked self.now }
-        requires has { has self.now place number ≡ true }
-        ensures first { IfNone result (get same_place self.now.newest place ≡ Some number) }
-        ensures has { IfSome result (λ n. has self.now place n ≡ true) }
-        ensures next { IfSome result (λ n. older_at self.now place n ≡ Some number) }
-    {
-        let mut newer = None;
-        let mut at = self.first(place);
-        while let Some(n) = at {
-            if n == number {
-                return newer;
+        let mut list = Vec::new(self.alloc);
+        list.reserve(more)?;
+        match self.by_place.insert(place, list) {
+            Ok(_) => {
+                self.empty = self.empty.saturating_add(1);
+                Ok(())
             }
-            newer = at;
-            at = self.older(place, n);
+            Err(_) => Err(OutOfMemory),
         }
-        unreachable!()
     }
 
-    // Takes a pair out of a list, where it is there.
-    pub fn take(&mut self, place: Place, number: u64)
-        requires { AreLinked self.old }
-        ensures ids { IsSet same_key (id_at self.old) (place, number) None (id_at self.new) }
-        ensures linked { AreLinked self.new }
-        ensures room { list_room self.old ≤ list_room self.new }
+    // Makes room for so many more pairs at a place.
+    pub fn make_room(&mut self, place: Place, more: usize) -> Mem<()>
+        ensures same { AreSame self.old self.new }
+        ensures room { OnOk result (more ≤ spare_at self.new place) }
+        ensures kept { IsRoomier self.old self.new }
     {
-        if self.links.contains_key(&(place, number)) {
-            let newer = self.newer(place, number);
-            let older = self.older(place, number);
-            self.links.remove(&(place, number));
-            match newer {
-                Some(n) => set_older(&mut self.links, place, n, older),
-                None => set_newest(&mut self.newest, place, older),
+        match self.by_place.get_mut(&place) {
+            Some(list) => Ok(list.reserve(more)?),
+            None => self.begin(place, more),
+        }
+    }
+
+    // Puts a pair at a place, where there is room for it.
+    pub fn push(&mut self, place: Place, id: Rid, area: Box2)
+        requires { 1 ≤ spare_at self.old place }
+        ensures pairs { (q : ThePlace) → listed_at self.new q ≡ cond (same_place place q) (listed_at self.old q ++ (id, area) ∷ []) (listed_at self.old q) }
+        ensures room { (q : ThePlace) → spare_at self.old q ≤ spare_at self.new q + one_if (same_place place q) }
+    {
+        if let Some(list) = self.by_place.get_mut(&place) {
+            let is_first = push_on(list, id, area);
+            if is_first {
+                self.empty = self.empty.saturating_sub(1);
             }
         }
     }
 
-    // Finds the features of a list.
+    // Takes one such pair from a place, where there is one.
+    pub fn take(&mut self, place: Place, id: Rid, area: Box2)
+        ensures pairs { (q : ThePlace) (p : Placed) → times p (listed_at self.new q) ≡ times p (listed_at self.old q) - one_if (same_place place q && is_pair p (id, area)) }
+        ensures room { IsRoomier self.old self.new }
+    {
+        if let Some(list) = self.by_place.get_mut(&place) {
+            let was_last = take_from(list, id, area);
+            if was_last {
+                self.empty = self.empty.saturating_add(1);
+            }
+        }
+    }
+
+    // Forgets the places that have no pairs, where they are more than the others. What room they had is lost.
+    pub fn sweep(&mut self)
+        ensures { AreSame self.old self.new }
+    {
+        if self.empty > self.by_place.len() / 2 {
+            self.by_place.retain(|_, list| !list.is_empty());
+            self.empty = 0;
+        }
+    }
+
+    // Finds the features of a place.
     pub fn collect(&self, place: Place, found: &mut Found) -> Mem<()>
-        requires linked { AreLinked self.now }
-        requires marked { AreMarked found.old.marks found.old.ids.items }
+        requires { AreMarked found.old.marks found.old.ids.items }
         ensures marked { OnOk result (AreMarked found.new.marks found.new.ids.items) }
-        ensures finds { OnOk result (FindsAlso (id_at self.now) place found.old found.new) }
+        ensures finds { OnOk result (FindsAlso (listed_at self.now place) found.old.ids.items found.new.ids.items) }
     {
-        let mut at = self.first(place);
-        while let Some(number) = at {
-            let Some(link) = self.link(place, number) else {
-                unreachable!()
-            };
-            found.add(link.id)?;
-            at = link.older;
+        match self.by_place.get(&place) {
+            Some(list) => found.add_all(list.as_slice()),
+            None => Ok(()),
         }
-        Ok(())
     }
 }

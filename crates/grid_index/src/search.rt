@@ -1,22 +1,21 @@
 //! Pairs that are looked for: one by its feature and its box, and those near a box.
 
-ghost use Rattle.std.specs.Prelude.{◌≡◌, ℕ, ◌≤◌, ◌≢◌, true, false, Some, None, IfOk, IfSome, IfNone, nat_eq};
-ghost use Rattle.std.specs.List.{IsDistinct};
-ghost use Rattle.std.specs.HashMap.{get};
+ghost use Rattle.std.specs.Prelude.{◌≡◌, ◌≢◌, ◌<◌, ◌||◌, true, false, List, IfOk, OnOk, IfSome, IfNone, length, get_or};
+ghost use Rattle.feature_values.specs.declared.feature.Rid.{Rid as TheRid};
 ghost use Rattle.grid_index.specs.Cells.{is_huge};
-ghost use Rattle.grid_index.specs.Near.{is_same};
-ghost use Rattle.grid_index.specs.Found.{FindsAsked};
-ghost use Rattle.grid_index.specs.Kept.{listed, AreNearBy};
-ghost use Rattle.grid_index.specs.Lists.{id_at, AreLinked};
+ghost use Rattle.grid_index.specs.Counts.{times};
+ghost use Rattle.grid_index.specs.Near.{Placed, is_among, puts_near, AreNear};
+ghost use Rattle.grid_index.specs.Found.{AreMarked, FindsNear};
+ghost use Rattle.grid_index.specs.Gridded.{IsGridOf};
+ghost use Rattle.grid_index.specs.Lists.{listed_at};
 
 use crate::cells;
 use crate::found::Found;
 use crate::lists::Lists;
-use crate::places::{collect_near, place_at};
+use crate::places::collect_near;
 use feature_values::Rid;
 use geom_core::Box2;
 use std::alloc::Global;
-use std::collections::HashMap;
 use wfs_ends::Mem;
 
 // Whether this is the pair of a feature and a box.
@@ -27,71 +26,58 @@ fn is_pair(pair: &(Rid, Box2), id: Rid, area: Box2) -> bool
     pair.0 == id && pair.1 == area
 }
 
-// Whether a number is that of the pair of a feature and a box. A pair of this number has the known feature.
-fn is_number_of(
-    pairs: &HashMap<u64, (Rid, Box2)>,
-    number: u64,
-    known: Rid,
-    id: Rid,
-    area: Box2,
-) -> bool
-    requires { (p : _) → get nat_eq pairs.now number ≡ Some p → p.0 ≡ known }
-    ensures yes { result ≡ true → get nat_eq pairs.now number ≡ Some (id, area) }
-    ensures no { result ≡ false → get nat_eq pairs.now number ≢ Some (id, area) }
+// Where such a pair stands among others, if one does.
+pub fn index_of(pairs: &[(Rid, Box2)], id: Rid, area: Box2) -> Option<usize>
+    ensures some { IfSome result (λ i. i < length pairs.now) }
+    ensures is { IfSome result (λ i. (d : Placed) → get_or pairs.now i d ≡ (id, area)) }
+    ensures none { IfNone result (times (id, area) pairs.now ≡ 0) }
 {
-    if known == id {
-        match pairs.get(&number) {
-            Some(pair) => is_pair(pair, id, area),
-            None => false,
+    for i in 0..pairs.len() {
+        if is_pair(&pairs[i], id, area) {
+            return Some(i);
         }
-    } else {
-        false
-    }
-}
-
-// The number of the newest such pair.
-pub fn number_of(
-    pairs: &HashMap<u64, (Rid, Box2)>,
-    lists: &Lists,
-    id: Rid,
-    area: Box2,
-) -> Option<u64>
-    requires linked { AreLinked lists.now }
-    requires listed { (k : _) → id_at lists.now k ≡ listed k.0 (get nat_eq pairs.now k.1) }
-    ensures some { IfSome result (λ n. get nat_eq pairs.now n ≡ Some (id, area)) }
-    ensures none { IfNone result ((n : ℕ) → get nat_eq pairs.now n ≢ Some (id, area)) }
-{
-    let _places = cells::places(&area);
-    let place = place_at(&area, 0);
-    let mut at = lists.first(place);
-    while let Some(number) = at {
-        let Some(link) = lists.link(place, number) else {
-            unreachable!()
-        };
-        if is_number_of(pairs, number, link.id, id, area) {
-            return Some(number);
-        }
-        at = link.older;
     }
     None
 }
 
 // Whether all pairs are looked at, and not those in the cells of a box.
-pub fn is_for_all(count: usize, asked: &Box2) -> bool
+pub fn is_for_all(lists: usize, asked: &Box2) -> bool
     ensures { result ≡ false → is_huge asked.now ≡ false }
 {
-    cells::is_huge(asked) || count < cells::cell_count(asked)
+    cells::is_huge(asked) || lists < cells::cell_count(asked)
+}
+
+// Adds the feature of a pair that is near a box.
+fn add_if_near(found: &mut Found, asked: &Box2, pair: &(Rid, Box2)) -> Mem<()>
+    requires { AreMarked found.old.marks found.old.ids.items }
+    ensures marked { OnOk result (AreMarked found.new.marks found.new.ids.items) }
+    ensures finds { OnOk result ((f : TheRid) → is_among f found.new.ids.items ≡ (is_among f found.old.ids.items || puts_near asked.now f pair.now)) }
+{
+    if cells::is_near(asked, &pair.1) {
+        found.add(pair.0)?;
+    }
+    Ok(())
+}
+
+// Adds those features of pairs that are near a box.
+fn add_near(found: &mut Found, asked: &Box2, pairs: &[(Rid, Box2)]) -> Mem<()>
+    requires { AreMarked found.old.marks found.old.ids.items }
+    ensures marked { OnOk result (AreMarked found.new.marks found.new.ids.items) }
+    ensures finds { OnOk result (FindsNear asked.now pairs.now found.old.ids.items found.new.ids.items) }
+{
+    for pair in pairs {
+        add_if_near(found, asked, pair)?;
+    }
+    Ok(())
 }
 
 // The features of all pairs that are near a box.
-pub fn among_all(alloc: Global, pairs: &HashMap<u64, (Rid, Box2)>, asked: &Box2) -> Mem<Vec<Rid>>
-    ensures { IfOk result (λ ids. AreNearBy asked.now (get nat_eq pairs.now) ids.items) }
+pub fn among_all(alloc: Global, lists: &Lists, asked: &Box2) -> Mem<Vec<Rid>>
+    ensures { IfOk result (λ ids. (pairs : List Placed) → IsGridOf (listed_at lists.now) pairs → AreNear asked.now pairs ids.items) }
 {
     let mut found = Found::new(alloc);
-    for pair in pairs.values() {
-        if cells::is_near(asked, &pair.1) {
-            found.add(pair.0)?;
-        }
+    for (_place, list) in lists.by_place.iter() {
+        add_near(&mut found, asked, list.as_slice())?;
     }
     let Found { ids, marks: _ } = found;
     Ok(ids)
@@ -99,10 +85,10 @@ pub fn among_all(alloc: Global, pairs: &HashMap<u64, (Rid, Box2)>, asked: &Box2)
 
 // The features on the wide list and in the cells of a box.
 pub fn in_cells(alloc: Global, lists: &Lists, asked: &Box2) -> Mem<Vec<Rid>>
-    requires { AreLinked lists.now }
-    ensures finds { IfOk result (λ ids. FindsAsked (id_at lists.now) asked.now ids.items) }
-    ensures once { IfOk result (λ ids. IsDistinct is_same ids.items) }
+    requires { is_huge asked.now ≡ false }
+    ensures { IfOk result (λ ids. (pairs : List Placed) → IsGridOf (listed_at lists.now) pairs → AreNear asked.now pairs ids.items) }
 {
+    let _low = asked.low;
     let mut found = Found::new(alloc);
     collect_near(lists, asked, &mut found)?;
     let Found { ids, marks: _ } = found;

@@ -6,8 +6,8 @@ use geom_core::{Box2, Pos};
 use std::alloc::Global;
 use wfs_ends::{List, Mem};
 
-// features 1 to 6 with boxes, and feature 8 twice with one box
-static PLACED: [(u64, [i64; 4]); 8] = [
+// features 1 to 7 with boxes, and feature 8 twice with one box
+static PLACED: [(u64, [i64; 4]); 9] = [
     (1, [0, 0, 1, 1]),
     (2, [70_000, 0, 70_000, 0]),
     (3, [-1, -1, -1, -1]),
@@ -16,25 +16,32 @@ static PLACED: [(u64, [i64; 4]); 8] = [
     (5, [-300_000, 10_000_000, 300_000, 10_600_000]),
     // 8 times 8 cells
     (6, [0, 20_000_000, 524_287, 20_447_232]),
+    // 65 cells in a row
+    (7, [0, 30_000_000, 4_194_304, 30_000_000]),
     (8, [-65_536, 0, -65_536, 0]),
     (8, [-65_536, 0, -65_536, 0]),
 ];
 
-static ASKED: [([i64; 4], &[u64]); 10] = [
-    ([5, 5, 6, 6], &[1, 4, 5]),
-    ([65_535, 0, 65_536, 0], &[1, 2, 4, 5]),
-    ([-5, -5, -4, -4], &[3, 5]),
-    ([-65_537, 0, -65_537, 0], &[5]),
-    ([-65_536, 9, -65_536, 9], &[5, 8]),
+static ASKED: [([i64; 4], &[u64]); 11] = [
+    ([5, 5, 6, 6], &[1, 4, 5, 7]),
+    ([65_535, 0, 65_536, 0], &[1, 2, 4, 5, 7]),
+    ([-5, -5, -4, -4], &[3, 5, 7]),
+    ([-65_537, 0, -65_537, 0], &[5, 7]),
+    ([-65_536, 9, -65_536, 9], &[5, 7, 8]),
     // on both sides of 0
-    ([-1, 0, 0, 0], &[1, 4, 5, 8]),
-    // more cells than there are pairs
-    ([0, 0, 655_360, 0], &[1, 2, 4, 5]),
-    ([524_287, 20_000_000, 524_287, 20_000_000], &[5, 6]),
-    ([524_288, 20_000_000, 524_288, 20_000_000], &[5]),
+    ([-1, 0, 0, 0], &[1, 4, 5, 7, 8]),
+    // more cells than there are places with pairs
+    ([0, 0, 655_360, 0], &[1, 2, 4, 5, 7]),
+    ([524_287, 20_000_000, 524_287, 20_000_000], &[5, 6, 7]),
+    ([524_288, 20_000_000, 524_288, 20_000_000], &[5, 7]),
+    // far from all but the wide boxes
+    (
+        [999_000_000, 999_000_000, 999_000_001, 999_000_001],
+        &[5, 7],
+    ),
     (
         [-1_000_000_000, -1_000_000_000, 1_000_000_000, 1_000_000_000],
-        &[1, 2, 3, 4, 5, 6, 8],
+        &[1, 2, 3, 4, 5, 6, 7, 8],
     ),
 ];
 
@@ -119,12 +126,12 @@ fn remove(grid: &mut Grid, pair: &(u64, [i64; 4])) {
 
 // What is near the box of a pair that stands twice, after one is removed, and after the other is.
 fn twice_removed_hold(alloc: Global) -> Mem<bool> {
-    let mut grid = filled(alloc, &PLACED[6..])?;
-    remove(&mut grid, &PLACED[7]);
-    let once = answers(alloc, &grid, &PLACED[7].1, &[8])?;
-    remove(&mut grid, &PLACED[7]);
-    remove(&mut grid, &PLACED[7]);
-    Ok(once && answers(alloc, &grid, &PLACED[7].1, &[])?)
+    let mut grid = filled(alloc, &PLACED[7..])?;
+    remove(&mut grid, &PLACED[8]);
+    let once = answers(alloc, &grid, &PLACED[8].1, &[8])?;
+    remove(&mut grid, &PLACED[8]);
+    remove(&mut grid, &PLACED[8]);
+    Ok(once && answers(alloc, &grid, &PLACED[8].1, &[])?)
 }
 
 #[test]
@@ -155,4 +162,33 @@ fn first_wrong_left(alloc: Global) -> Mem<Option<usize>> {
 #[test]
 fn the_others_of_a_cell_stay(rt: HostRuntime) {
     assert_eq!(rt; first_wrong_left(rt.alloc()), Ok(None));
+}
+
+// Each mark of a cell moves to a cell of its own, and the one that was left is swept. Then a mark comes there again.
+fn swept_hold(alloc: Global) -> Mem<bool> {
+    let mut grid = filled(alloc, &TOGETHER)?;
+    for (i, pair) in TOGETHER.iter().enumerate() {
+        remove(&mut grid, pair);
+        grid.sweep();
+        if let Some(area) = box_of(&MOVED[i]) {
+            put(alloc, &mut grid, pair.0, area)?;
+        }
+    }
+    let left = answers(alloc, &grid, &TOGETHER[0].1, &[])?;
+    let there = answers(alloc, &grid, &MOVED[1], &[2])?;
+    if let Some(area) = box_of(&TOGETHER[2].1) {
+        put(alloc, &mut grid, 9, area)?;
+    }
+    Ok(left && there && answers(alloc, &grid, &TOGETHER[0].1, &[9])?)
+}
+
+static MOVED: [[i64; 4]; 3] = [
+    [200_000, 0, 200_000, 0],
+    [400_000, 0, 400_000, 0],
+    [600_000, 0, 600_000, 0],
+];
+
+#[test]
+fn places_that_were_left_are_swept(rt: HostRuntime) {
+    assert_eq!(rt; swept_hold(rt.alloc()), Ok(true));
 }

@@ -1,10 +1,11 @@
-use Rattle.std.proofs.Common.{◌≡◌, ◌+◌, ◌≤◌, cond, ◌&&◌, nat_eq, Some}
-use Rattle.grid_index.specs.Lists.{Key, place_at, is_among_first, id_at, AreLinked, list_room}
+use Rattle.std.proofs.Common.{◌≡◌, ◌+◌, ◌≤◌, cond, [], ◌∷◌, ◌++◌}
+use Rattle.grid_index.specs.Counts.{one_if}
+use Rattle.grid_index.specs.Lists.{listed_at, spare_at}
+use Rattle.grid_index.specs.Places.{Place, place_at, is_among_first}
 use Rattle.grid_index.proofs.places.put_in.Given as goal
 
 abbrev pub invariant-loop-i : goal.invariant-loop-i
 invariant-loop-i l = record {
-  ids : (k : Key) → id_at l.lists k ≡ cond (is_among_first l.i (place_at l.area) k.0 && nat_eq l.number k.1) (Some l.id) (id_at l.initial.lists k);
-  linked : AreLinked l.lists;
-  room : list_room l.initial.lists ≤ list_room l.lists + l.i;
+  pairs : (q : Place) → listed_at l.lists q ≡ cond (is_among_first l.i (place_at l.area) q) (listed_at l.initial.lists q ++ (l.id, l.area) ∷ []) (listed_at l.initial.lists q);
+  room : (q : Place) → spare_at l.initial.lists q ≤ spare_at l.lists q + one_if (is_among_first l.i (place_at l.area) q);
 }

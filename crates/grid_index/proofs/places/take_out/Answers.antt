@@ -1,14 +1,19 @@
-use Rattle.std.proofs.Common.{None, arith}
-use Rattle.grid_index.specs.Lists.{id_at}
-use Rattle.grid_index.proofs.OneByOne.{changed_next, changed_all}
+use Rattle.std.proofs.Common.{arith}
+use Rattle.grid_index.specs.Counts.{is_pair}
+use Rattle.grid_index.proofs.OneByOne.{taken_next, taken_all}
 use Rattle.grid_index.proofs.places.take_out.Goals as goal
+
+pub loop-i-init : goal.loop-i-init
+loop-i-init c = record {
+  pairs = λ q p. omega arith;
+  room = λ q. omega arith;
+}
 
 pub loop-i-preserved : goal.loop-i-preserved
 loop-i-preserved c = record {
-  ids = changed_next (id_at c.args.lists.now) (id_at c.loop-i.lists) _ c.args.area.now c.args.number c.loop-i.i None c.place_at.result c.place_at.ensures c.loop-i.invariant.ids c.take.ensures.ids;
-  linked = c.take.ensures.linked;
-  room = omega (arith, c.take.ensures.room, c.loop-i.invariant.room);
+  pairs = λ q p. taken_next c.args.area c.loop-i.i c.place_at.result q (is_pair p (c.args.id, c.args.area)) _ _ _ (omega arith) c.place_at.ensures (c.loop-i.invariant.pairs q p) (c.take.ensures.pairs q p);
+  room = λ q. let one = c.take.ensures.room q in let all = c.loop-i.invariant.room q in omega (arith, one, all);
 }
 
-pub returns-clause-ids : goal.returns-clause-ids
-returns-clause-ids c = changed_all (id_at c.args.lists.now) _ c.args.area.now c.args.number c.loop-i.i None c.places-i-end.ensures.upright (omega arith) c.loop-i.invariant.ids
+pub returns-clause-pairs : goal.returns-clause-pairs
+returns-clause-pairs c = λ q p. taken_all c.args.area c.loop-i.i q (is_pair p (c.args.id, c.args.area)) _ _ c.places-i-end.ensures.upright (omega arith) (c.loop-i.invariant.pairs q p)

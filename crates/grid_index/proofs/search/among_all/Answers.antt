@@ -1,14 +1,17 @@
-use Rattle.std.proofs.Common.{◌∙◌}
-use Rattle.std.specs.Map.Iter.{deref}
-use Rattle.std.proofs.lemmas.Map.Iter.{rest_all}
-use Rattle.grid_index.specs.Near.{puts_near}
-use Rattle.grid_index.proofs.Scanned.{any_value, turn_end}
+use Rattle.std.specs.Map.Iter.{deref_pair}
+use Rattle.std.proofs.lemmas.Map.Iter.{rest_more, rest_all}
+use Rattle.grid_index.proofs.Nearby.{turn_next, turn_end, found_all}
 use Rattle.grid_index.proofs.search.among_all.Goals as goal
 
-pub returns : goal.returns
-returns c = λ next fresh. record {
-  just = λ f.
-      turn_end (puts_near c.args.asked.now f) c.loop-pair.pair-iterator _ _ (rest_all deref _ _ _ c.in-None.is c.next.ensures.steps) (c.loop-pair.invariant.found f)
-      ∙ any_value (puts_near c.args.asked.now f) c.args.pairs.now.entries next c.values-pair-items.ensures.unique fresh;
-  once = c.loop-pair.invariant.marked.once;
+pub loop-place-preserved : goal.loop-place-preserved
+loop-place-preserved c = record {
+  found = λ f. turn_next c.args.asked.now f c.loop-place._place-iterator _ _ c.in-Some.list.now _ _ _ (rest_more deref_pair _ _ _ (c.in-Some._place, c.in-Some.list) c.in-Some.is c.next.ensures.steps) (c.loop-place.invariant.found f)
+      (rw c.as_slice.ensures.value at (c.in_ok-add_near.ensures.finds f));
+  marked = c.in_ok-add_near.ensures.marked;
 }
+
+pub returns : goal.returns
+returns c = λ pairs h.
+    found_all c.args.lists.now.by_place c.args.asked.now pairs _ c.iter-place-items.ensures.found
+    (λ f. turn_end c.args.asked.now f c.loop-place._place-iterator _ _ (rest_all deref_pair _ _ _ c.in-None.is c.next.ensures.steps) (c.loop-place.invariant.found f))
+    c.loop-place.invariant.marked.once h

@@ -1,6 +1,8 @@
 use Rattle.std.proofs.Common.{◌≡◌, ◌≤◌, length, take, drop}
 use Rattle.std.specs.List.{sum_by}
-use Rattle.feature_versions.specs.Placed.{places_of}
+use Rattle.grid_index.specs.Gridded.{room_at}
+use Rattle.grid_index.specs.Places.{Place}
+use Rattle.feature_versions.specs.Placed.{taken_by}
 use Rattle.feature_versions.specs.Rows.{live}
 use Rattle.feature_versions.proofs.layer.Layer.copy.Given as goal
 
@@ -9,5 +11,5 @@ invariant-loop-row l = record {
   kind : l.layer.kind ≡ l.self.kind;
   features : l.layer.features ≡ live (take l.row-index l.rows);
   rows : length (live (drop l.row-index l.rows)) ≤ l.layer.rows;
-  places : sum_by places_of (live (drop l.row-index l.rows)) ≤ l.layer.places;
+  places : (place : Place) → sum_by (taken_by place) (live (drop l.row-index l.rows)) ≤ room_at l.layer.places place;
 }

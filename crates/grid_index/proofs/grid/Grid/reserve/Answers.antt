@@ -1,17 +1,11 @@
-use Rattle.std.proofs.Common.{refl, nat_eq}
-use Rattle.std.specs.HashMap.{get}
-use Rattle.grid_index.specs.Lists.{id_at}
-use Rattle.grid_index.proofs.Keeping.{listed_same}
+use Rattle.grid_index.proofs.Gridding.{still_grid, no_less_room, spare_if}
 use Rattle.grid_index.proofs.grid.Grid.reserve.Goals as goal
 
-pub invariant_of-self : goal.invariant_of-self
-invariant_of-self c = record {
-  listed = listed_same (get nat_eq c.self.inside.pairs) _ c.self.inside.next (id_at c.self.inside.lists) _ c.self.invariant.listed c.reserve.ensures.entries.2 (λ k. refl);
-  linked = c.self.invariant.linked;
-}
+pub returns-clause-pairs : goal.returns-clause-pairs
+returns-clause-pairs c = λ pairs h. still_grid c.self.inside.lists c.reserve.new.lists c.args.self.now pairs c.self.view_is c.reserve.ensures.same h
 
-pub invariant_of-self-2 : goal.invariant_of-self-2
-invariant_of-self-2 c = record {
-  listed = listed_same (get nat_eq c.self.inside.pairs) _ c.self.inside.next (id_at c.self.inside.lists) _ c.self.invariant.listed c.reserve.ensures.entries.2 c.reserve-2.ensures.ids;
-  linked = c.reserve-2.ensures.linked;
-}
+pub returns-clause-spare : goal.returns-clause-spare
+returns-clause-spare c = spare_if c.reserve.result c.reserve.new.lists c.args.areas.now c.items.result.now c.items.ensures c.reserve.ensures.room
+
+pub returns-clause-room : goal.returns-clause-room
+returns-clause-room c = no_less_room c.self.inside.lists c.reserve.new.lists c.args.self.now c.self.view_is c.reserve.ensures.kept

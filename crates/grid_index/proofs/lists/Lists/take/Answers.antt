@@ -1,21 +1,30 @@
-use Rattle.std.proofs.Common.{sym, ◌∙◌}
-use Rattle.grid_index.proofs.Chains.{linked_take_first, linked_take_next, leads_on, ids_take, ids_relink, ids_absent}
+use Rattle.std.proofs.Common.{sym, ap, arith, rules}
+use Rattle.std.specs.HashMap.{get}
+use Rattle.grid_index.specs.Lists.{spare, spare_of}
+use Rattle.grid_index.specs.Places.{same_place}
+use Rattle.grid_index.proofs.Looking.{set_taken, set_roomier, none_taken}
 use Rattle.grid_index.proofs.lists.Lists.take.Goals as goal
 
-pub set_older-requires : goal.set_older-requires
-set_older-requires c = leads_on _ _ _ c.args.place c.args.number c.in-Some.n c.requires c.in-Some.ensures.has c.in-Some.ensures.next c.remove.ensures.updates.0
+pub returns-then-was_last-clause-pairs : goal.returns-then-was_last-clause-pairs
+returns-then-was_last-clause-pairs c =
+    set_taken (get same_place c.args.self.now.by_place) (get same_place (c.get_mut.follows.lender c.take_from-was_last.new.list)) c.args.place c.take_from-was_last.new.list ((c.get_mut.follows.holds c.take_from-was_last.new.list).3 (search rules)).0
+    c.in-Some.list.now (c.args.id, c.args.area) (sym c.in-Some.ensures.value) c.take_from-was_last.ensures.pairs
 
-pub returns-in-Some-clause-ids : goal.returns-in-Some-clause-ids
-returns-in-Some-clause-ids c = ids_relink _ _ _ (c.args.place, c.args.number) (c.args.place, c.in-Some.n) c.older-older.result c.remove.ensures.updates.0 c.set_older.ensures.links
+pub returns-then-was_last-clause-room : goal.returns-then-was_last-clause-room
+returns-then-was_last-clause-room c =
+    set_roomier (get same_place c.args.self.now.by_place) (get same_place (c.get_mut.follows.lender c.take_from-was_last.new.list)) c.args.place c.take_from-was_last.new.list ((c.get_mut.follows.holds c.take_from-was_last.new.list).3 (search rules)).0
+    (spare_of c.in-Some.list.now) (ap spare (sym c.in-Some.ensures.value)) (omega (arith, c.take_from-was_last.ensures.len, c.take_from-was_last.ensures.capacity))
 
-pub returns-in-Some-clause-linked : goal.returns-in-Some-clause-linked
-returns-in-Some-clause-linked c = linked_take_next _ _ _ _ c.args.place c.args.number c.in-Some.n c.older-older.result c.requires c.in-Some.ensures.has c.in-Some.ensures.next c.older-older.ensures c.remove.ensures.updates.0 c.set_older.ensures.links
+pub returns-else-was_last-clause-pairs : goal.returns-else-was_last-clause-pairs
+returns-else-was_last-clause-pairs c =
+    set_taken (get same_place c.args.self.now.by_place) (get same_place (c.get_mut.follows.lender c.take_from-was_last.new.list)) c.args.place c.take_from-was_last.new.list ((c.get_mut.follows.holds c.take_from-was_last.new.list).3 (search rules)).0
+    c.in-Some.list.now (c.args.id, c.args.area) (sym c.in-Some.ensures.value) c.take_from-was_last.ensures.pairs
 
-pub returns-in-None-clause-ids : goal.returns-in-None-clause-ids
-returns-in-None-clause-ids c = ids_take _ _ (c.args.place, c.args.number) c.remove.ensures.updates.0
+pub returns-else-was_last-clause-room : goal.returns-else-was_last-clause-room
+returns-else-was_last-clause-room c =
+    set_roomier (get same_place c.args.self.now.by_place) (get same_place (c.get_mut.follows.lender c.take_from-was_last.new.list)) c.args.place c.take_from-was_last.new.list ((c.get_mut.follows.holds c.take_from-was_last.new.list).3 (search rules)).0
+    (spare_of c.in-Some.list.now) (ap spare (sym c.in-Some.ensures.value)) (omega (arith, c.take_from-was_last.ensures.len, c.take_from-was_last.ensures.capacity))
 
-pub returns-in-None-clause-linked : goal.returns-in-None-clause-linked
-returns-in-None-clause-linked c = linked_take_first _ _ _ _ c.args.place c.args.number c.older-older.result c.requires c.in-None.ensures.first c.older-older.ensures c.remove.ensures.updates.0 c.set_newest.ensures.newest
-
-pub returns-else-contains_key-clause-ids : goal.returns-else-contains_key-clause-ids
-returns-else-contains_key-clause-ids c = ids_absent _ (c.args.place, c.args.number) (sym c.contains_key.ensures ∙ c.if-contains_key.false)
+pub returns-in_default-clause-pairs : goal.returns-in_default-clause-pairs
+returns-in_default-clause-pairs c = λ q p.
+    rw c.get_mut.follows.holds-at-none (none_taken (get same_place c.args.self.now.by_place) c.args.place (c.args.id, c.args.area) (sym c.in_default.ensures.value) q p)
