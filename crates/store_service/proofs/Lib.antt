@@ -3,3 +3,4 @@ mod FreshSeats
 mod Leaving
 mod Lists
 mod Stacks
+mod Views

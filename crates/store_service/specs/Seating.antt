@@ -1,19 +1,37 @@
 -- How workers come to their seats, and leave them.
-use Rattle.std.specs.Prelude.{◌≡◌, ℕ, List, [], ◌∷◌, length, slice_get, Option, Some, None}
+use Rattle.std.specs.Prelude.{◌≡◌, ℕ, List, [], ◌∷◌, length, slice_get, Option, Some, None, All}
 use Rattle.atomic_table.specs.Seated.{TableId}
 use Rattle.feature_values.specs.declared.schema.Schema.{Schema}
 use Rattle.service_doors.specs.Accepting.{Accepting}
 use Rattle.service_workers.specs.declared.worker.Worker.{Worker}
+use Rattle.snapshot_reads.specs.declared.book.Pair.{Pair}
+use Rattle.snapshot_reads.specs.declared.viewer.Viewer.{Viewer}
 use Rattle.store_service.specs.declared.slot.Ended.{Ended}
 use Rattle.store_service.specs.declared.slot.Slot.{Slot}
 use Rattle.store_service.specs.Serving.{desk_at, Works}
+use Rattle.store_turns.specs.declared.counter.Counter.{Counter}
+use Rattle.store_turns.specs.Counters.{IsViewerAt, IsViewerOf}
 use Rattle.store_turns.specs.Knowing.{Known}
+use Rattle.store_turns.specs.Published.{pairs_of}
 use Rattle.store_turns.specs.Seats.{Seated}
 use Rattle.turnstile_core.specs.declared.view.Past.{Past}
 
 -- seats stand in the order of their numbers
 abbrev pub AreInOrder : {T E : Type 0} → List (Past T E) → Type 0
 AreInOrder {T} {E} seats = (number : ℕ) (known : Past T E) → slice_get seats number ≡ Some known → known.number ≡ number
+
+-- a viewer, where there is one, that may serve a seat of a turnstile that began with this: it views what the publisher there publishes, which is of
+-- this schema, and has found nothing yet
+pub record MayServe {D : Type 0} (schema : Schema) (first : Counter D) (viewer : Option Viewer) : Type 0 where
+  pub of : IsViewerOf schema viewer
+  pub at : IsViewerAt first viewer
+  pub none : pairs_of viewer ≡ []
+
+-- seats of one turnstile, and viewers that may serve them
+pub record HaveViews {D : Type 0} (schema : Schema) (seats : List (Known D)) (viewers : List (Option Viewer)) : Type 0 where
+  pub first : Counter D
+  pub began : All (λ p. p.origin ≡ first ∷ []) seats
+  pub serve : All (MayServe schema first) viewers
 
 -- a worker that is to serve the links of a slot
 abbrev pub worker_of : {S A C G : Type 0} → S → Slot A C G → Worker S A C G
@@ -37,12 +55,13 @@ zip_by f (x ∷ xs) (y ∷ ys) = f x y ∷ zip_by f xs ys
 module _ {A C G D : Type 0} where
   -- a worker for each slot, at the seat of the same place
   abbrev pub workers_at : TableId → Schema → List (Slot A C G) → List (Known D) → List (Worker (Seated D) A C G)
-  workers_at name schema slots seats = zip_by (λ slot known. worker_of (desk_at name schema known) slot) slots seats
+  workers_at name schema slots seats = zip_by (λ slot known. worker_of (desk_at name schema known []) slot) slots seats
 
 module _ {A C G D : Type 0} (accepting : A → Accepting) (moments : C → Option (List ℕ)) (limit : Option ℕ) where
-  -- the workers at these seats did their work, each from its slot on, and left the seats in the same order
-  pub record HaveWorked (name : TableId) (schema : Schema) (slots : List (Slot A C G)) (old : List (Known D)) (ended : List (Ended A C G)) (new : List (Known D)) : Type 0 where
+  -- the workers at these seats did their work, each from its slot on, and left the seats in the same order, with what their viewers found
+  pub record HaveWorked (name : TableId) (schema : Schema) (slots : List (Slot A C G)) (old : List (Known D)) (ended : List (Ended A C G)) (new : List (Known D)) (found : List (List Pair)) : Type 0 where
     pub as_many : length ended ≡ length slots
     pub seats : length new ≡ length slots
-    pub each : (number : ℕ) (slot : Slot A C G) (before : Known D) (end : Ended A C G) (after : Known D) → slice_get slots number ≡ Some slot → slice_get old number ≡ Some before
-        → slice_get ended number ≡ Some end → slice_get new number ≡ Some after → Works accepting moments limit name schema slot before end after
+    pub views : length found ≡ length slots
+    pub each : (number : ℕ) (slot : Slot A C G) (before : Known D) (end : Ended A C G) (after : Known D) (pairs : List Pair) → slice_get slots number ≡ Some slot → slice_get old number ≡ Some before
+        → slice_get ended number ≡ Some end → slice_get new number ≡ Some after → slice_get found number ≡ Some pairs → Works accepting moments limit name schema slot before end after pairs

@@ -1,10 +1,13 @@
 //! A service runs: seats are given, workers run side by side, and the store comes back.
 
-ghost use Rattle.std.specs.Prelude.{◌≡◌, ◌<◌, ◌≤◌, [], All, length, map, replicate, vec_capacity};
+ghost use Rattle.std.specs.Prelude.{◌≡◌, ◌<◌, ◌≤◌, [], ◌∷◌, All, length, map, replicate, vec_capacity};
 ghost use Rattle.disk_core.specs.Sides.{EveryBoth};
 ghost use Rattle.durable_journal.specs.Standing.{SaysWith};
-ghost use Rattle.store_service.specs.Seating.{AreInOrder, HaveWorked};
+ghost use Rattle.store_service.specs.Seating.{AreInOrder, HaveViews, HaveWorked};
 ghost use Rattle.store_service.specs.Serving.{IfRan, IfNoMemory, RunFits};
+ghost use Rattle.store_turns.specs.declared.counter.Counter.{Counter as KeptStore};
+ghost use Rattle.store_turns.specs.Counters.{IsSettled, IsViewerAt};
+ghost use Rattle.store_turns.specs.Published.{AreOf, pairs_of};
 ghost use Rattle.store_turns.specs.Seats.{IsOfOpening};
 ghost use Rattle.turnstile_core.specs.Seats.{name_of, past, IsFreeAt};
 ghost use Rattle.wfs_store.specs.Held.{kept_of};
@@ -17,6 +20,7 @@ use feature_values::Schema;
 use service_doors::Acceptor;
 use service_workers::{Worker, run_workers};
 use session_workers::Gate;
+use snapshot_reads::{Publisher, Viewer};
 use std::alloc::Global;
 use std::sync::Wait;
 use std::thread::Threads;
@@ -66,21 +70,41 @@ where
         seats.destroy_empty();
         return Served::NoMemory { store, slots };
     };
+    let Ok((publisher, mut viewers)) = Publisher::new(rt, alloc, store.features(), many as u32)
+    else {
+        ended.destroy_empty();
+        seats.destroy_empty();
+        workers.destroy_empty();
+        return Served::NoMemory { store, slots };
+    };
     let _rules = store.schema();
-    match Turnstile::new(alloc, Counter { store }) {
+    match Turnstile::new(alloc, Counter::of(store, publisher)) {
         Ok((turnstile, first)) => {
             give_seats(&turnstile, first, many, &mut seats);
             work_all(
-                rt, alloc, &turnstile, schema, limit, slots, workers, &mut seats, &mut ended,
+                rt,
+                alloc,
+                &turnstile,
+                schema,
+                limit,
+                slots,
+                workers,
+                &mut seats,
+                &mut viewers,
+                &mut ended,
             );
-            let Counter { store } = turnstile.close(seats);
+            let counter = turnstile.close(seats);
+            meet_them(rt, &counter, viewers);
+            let Counter { store, publisher } = counter;
+            publisher.end(rt);
             stands(&store);
             Served::Ran {
                 store,
                 workers: ended,
             }
         }
-        Err(Returned(Counter { store })) => {
+        Err(Returned(Counter { store, publisher })) => {
+            publisher.end(rt);
             ended.destroy_empty();
             seats.destroy_empty();
             workers.destroy_empty();
@@ -89,7 +113,19 @@ where
     }
 }
 
-// Has a worker for each slot do its work at the seat of the same place, and leave it.
+// Has all these viewers meet the publisher: all that they have found is then known to be of the history.
+fn meet_them<R: Wait, D: Disk>(rt: &R, counter: &Counter<D>, viewers: Vec<Option<Viewer>>)
+    requires settled { IsSettled counter.now }
+    requires at { All (IsViewerAt counter.now) viewers.items }
+    ensures { All (λ viewer. AreOf counter.now.store (pairs_of viewer)) viewers.items }
+{
+    let mut viewers = viewers;
+    while let Some(mut viewer) = viewers.pop() {
+        counter.meet(rt, &mut viewer);
+    }
+}
+
+// Has a worker for each slot do its work at the seat of the same place, with the viewer of the same place, and leave it.
 fn work_all<
     'a,
     R: Threads + Wait + Sync,
@@ -106,6 +142,7 @@ fn work_all<
     slots: Vec<Slot<A, C, G>>,
     workers: Vec<Worker<Desk<'a, R, D>, A, C, G>>,
     seats: &mut Vec<Seat<Counter<D>>>,
+    viewers: &mut Vec<Option<Viewer>>,
     ended: &mut Vec<Ended<A, C, G>>,
 )
 where
@@ -114,14 +151,16 @@ where
     requires opening { All (IsOfOpening schema.now) (map past seats.old.items) }
     requires order { AreInOrder (map past seats.old.items) }
     requires as_many { (length slots.items ≡ length seats.old.items) × (length slots.items ≤ 16) }
+    requires views { (length viewers.old.items ≡ length seats.old.items) × HaveViews schema.now (map past seats.old.items) viewers.old.items }
     requires workers_room { (workers.items ≡ []) × (length slots.items ≤ vec_capacity workers) }
     requires ended_room { (ended.old.items ≡ []) × (length slots.items ≤ vec_capacity ended.old) }
     requires seats_room { length slots.items ≤ vec_capacity seats.old }
     ensures own { All (IsFreeAt (name_of turnstile.now)) seats.new.items }
-    ensures worked { HaveWorked A.accepting C.moments limit (name_of turnstile.now) schema.now slots.items (map past seats.old.items) ended.new.items (map past seats.new.items) }
+    ensures worked { HaveWorked A.accepting C.moments limit (name_of turnstile.now) schema.now slots.items (map past seats.old.items) ended.new.items (map past seats.new.items) (map pairs_of viewers.new.items) }
+    ensures views { (first : KeptStore D) → All (λ p. p.origin ≡ first ∷ []) (map past seats.old.items) → All (IsViewerAt first) viewers.new.items }
 {
     let mut workers = workers;
-    sit_down(rt, turnstile, schema, slots, seats, &mut workers);
+    sit_down(rt, turnstile, schema, slots, seats, viewers, &mut workers);
     run_workers(rt, alloc, limit, &mut workers);
-    stand_up(workers, seats, ended);
+    stand_up(workers, seats, viewers, ended);
 }

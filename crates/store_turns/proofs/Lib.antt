@@ -1,3 +1,5 @@
+pub mod Counting
+pub mod Finding
 pub mod Places
 pub mod Sending
 pub mod Steps

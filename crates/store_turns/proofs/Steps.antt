@@ -1,10 +1,10 @@
 -- A step of one seat is what the turnstile asks of it, and what goes on to hold of the store.
-use Rattle.std.proofs.Common.{◌≡◌, ◌≢◌, ◌⊎◌, ⊎_elim, inl, inr, ℕ, ◌+◌, ◌<◌, ◌≤◌, List, [], ◌∷◌, ◌++◌, length, get_or, Option, Some, None, Result, Ok, Err, refl, sym, ap, ◌∙◌, arith, le_trans}
+use Rattle.std.proofs.Common.{◌≡◌, ◌≢◌, inl, inr, ℕ, ◌≤◌, List, [], ◌∷◌, length, get_or, Option, Some, None, Result, Ok, Err, refl, ap, ◌∙◌, arith, le_trans}
 use Rattle.std.proofs.lemmas.List.{get_or-set_other, length-set}
 use Rattle.std.proofs.lemmas.List.Elements.{All-nil, All-cons, All-append}
 use Rattle.disk_core.specs.declared.pair.Pair.{Pair}
 use Rattle.feature_journal.specs.Faults.{OneRose, NoneFell}
-use Rattle.store_turns.specs.Openings.{HasLegalHistory, having, tally_of, StaysOpen, IsOneOf}
+use Rattle.store_turns.specs.Openings.{HasLegalHistory, tally_of, IsOneOf}
 use Rattle.wfs_model.specs.declared.change.Change.{Change}
 use Rattle.wfs_model.specs.declared.entry.Entry.{Entry}
 use Rattle.wfs_model.specs.declared.reply.Reply.{Reply}
@@ -13,7 +13,6 @@ use Rattle.wfs_model.specs.OfSchema.{IsOfSchema}
 use Rattle.wfs_store.specs.declared.fault.StepFault.{StepFault}
 use Rattle.wfs_store.specs.declared.fault.StepFault.TheVariants as fault
 use Rattle.wfs_store.specs.Held.{Held, now_of}
-use Rattle.wfs_store.specs.Past.{IsHistory}
 use Rattle.wfs_store.specs.Stepped.{SameOpening, IsStepOf, taken_up, change_by}
 use Rattle.wfs_store.specs.Written.{begun_after}
 use Rattle.wfs_store.proofs.Histories.{legal_more}
@@ -34,7 +33,7 @@ begun_after_none : (made begun : Option Change) → begun ≡ None → begun_aft
 begun_after_none None begun none = none
 begun_after_none (Some change) begun none = refl
 
-opening_both : {D : Type 0} (a b c : Held D) → SameOpening a b → SameOpening b c → SameOpening a c
+pub opening_both : {D : Type 0} (a b c : Held D) → SameOpening a b → SameOpening b c → SameOpening a c
 opening_both a b c g h = record { schema = h.schema ∙ g.schema; limits = h.limits ∙ g.limits; opening = h.opening ∙ g.opening; side = h.side ∙ g.side; current = h.current ∙ g.current }
 
 -- ---- a step

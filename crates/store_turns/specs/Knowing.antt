@@ -40,10 +40,10 @@ pub record KnowsMore {D : Type 0} (p q : Known D) : Type 0 where
   pub tally : p.tally ≤ last_count → RisesTo p.tally q.tally
   pub legal : HasSeenLegal p → HasSeenLegal q
 
-prefix_self : {A : Type 0} (xs : List A) → IsPrefix xs xs
+pub prefix_self : {A : Type 0} (xs : List A) → IsPrefix xs xs
 prefix_self xs = ([], append-nil xs)
 
-prefix_trans : {A : Type 0} (xs ys zs : List A) → IsPrefix xs ys → IsPrefix ys zs → IsPrefix xs zs
+pub prefix_trans : {A : Type 0} (xs ys zs : List A) → IsPrefix xs ys → IsPrefix ys zs → IsPrefix xs zs
 prefix_trans xs ys zs p q = (p.0 ++ q.0, sym (append_assoc xs p.0 q.0) ∙ (ap (λ l. l ++ q.0) p.1 ∙ q.1))
 
 pub knows_same : {D : Type 0} (p : Known D) → KnowsMore p p

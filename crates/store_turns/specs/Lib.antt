@@ -1,4 +1,6 @@
+pub mod Counters
 pub mod Knowing
 pub mod Openings
+pub mod Published
 pub mod Seats
 pub mod Turns

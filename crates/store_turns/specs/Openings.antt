@@ -1,5 +1,5 @@
 -- What no turn changes of a store, and what goes on to hold of it.
-use Rattle.std.specs.Prelude.{◌≡◌, ◌≢◌, ℕ, List, length, get_or, refl, Option, None}
+use Rattle.std.specs.Prelude.{◌≡◌, ◌≢◌, ℕ, List, length, get_or, refl, None}
 use Rattle.std.proofs.Common.{le_refl}
 use Rattle.feature_journal.specs.Faults.{NoneFell, OneRose}
 use Rattle.wfs_model.specs.declared.entry.Entry.{Entry}

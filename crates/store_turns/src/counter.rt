@@ -1,21 +1,27 @@
-//! The store as a value that a turnstile keeps.
+//! The store as a value that a turnstile keeps, with the publisher of what its history leaves.
 
 use disk_core::Disk;
+use snapshot_reads::Publisher;
 use turnstile_core::Kept;
 use wfs_model::Entry;
 use wfs_store::Store;
 
-/// The store, with what is kept beside it for those that do not take a turn: nothing yet. Its history is the store's, and its tally that
-/// of the store's faults.
-#[derive(Drop)]
+mod publishing;
+
+/// The store, with the publisher of what it keeps. Its history is the store's, and its tally that of the store's faults.
+///
+/// Where it is settled, each pair that the publisher was given is a front in the history, and what outlives the process there. It is not `Drop`,
+/// since the publisher is not.
 pub struct Counter<D: Disk> {
     /// The store.
     pub store: Store<D>,
+    /// It publishes what the history leaves, in each turn that adds to it.
+    pub publisher: Publisher,
 }
 
 impl<D: Disk> Kept for Counter<D> {
-    ghost use Rattle.std.specs.Prelude.{⊤};
-    ghost use Rattle.store_turns.specs.Openings.{StaysOpen, tally_of, stays_open};
+    ghost use Rattle.store_turns.specs.Counters.{GoesOn, IsSettled, goes_on, shown_in};
+    ghost use Rattle.store_turns.specs.Openings.{tally_of};
 
     type Entry = Entry;
 
@@ -25,19 +31,19 @@ impl<D: Disk> Kept for Counter<D> {
 
     ghost tally = { λ c seat. tally_of c.store seat };
 
-    ghost published = { λ c. 0 };
+    ghost published = { shown_in };
 
-    ghost settled = { λ c. ⊤ };
+    ghost settled = { IsSettled };
 
-    ghost opening = { λ a b. StaysOpen D.faults a.store b.store };
+    ghost opening = { GoesOn D.faults };
 
     fn entries(&self) -> u64 {
         self.store.entries()
     }
 
     fn shown(&self) -> u64 {
-        0
+        self.publisher.shown().min(self.store.entries())
     }
 
-    ghost own_opening = { λ c. stays_open D.faults c.store };
+    ghost own_opening = { goes_on D.faults };
 }

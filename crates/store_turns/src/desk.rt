@@ -1,7 +1,8 @@
 //! A seat at the store's turnstile, which serves the sessions of one worker.
 
 ghost use Rattle.std.specs.Prelude.{◌≡◌, ◌≤◌};
-ghost use Rattle.store_turns.specs.Seats.{IsOfOpening};
+ghost use Rattle.store_turns.specs.Published.{pairs_of};
+ghost use Rattle.store_turns.specs.Seats.{HasViewer, IsOfOpening};
 ghost use Rattle.turnstile_core.specs.Seats.{name_of, turnstile_of, past, IsFree};
 
 use crate::counter::Counter;
@@ -11,15 +12,17 @@ use feature_values::Schema;
 use http_session::Message;
 use message_asks::read_asked;
 use session_workers::{Answered, Gate, Service};
+use snapshot_reads::Viewer;
 use std::alloc::Global;
 use std::marker::Model;
 use std::sync::Wait;
 use turnstile_core::{Kept, Seat, Turnstile};
 use wfs_model::{AskFault, Entry, Reply};
 
-/// A seat at the store's turnstile, with the schema that is served and the handle to wait by. It holds no turn.
+/// A seat at the store's turnstile, with the schema that is served and the handle to wait by, and a viewer of what is published, where there is one.
+/// It holds no turn.
 ///
-/// Contracts see at which turnstile it is, the schema, and what the seat knows.
+/// Contracts see at which turnstile it is, the schema, what the seat knows, and what the viewer has found.
 #[derive(Drop)]
 pub struct Desk<'a, R, D: Disk>
 where
@@ -30,6 +33,7 @@ where
     schema: &'a Schema,
     number: u32,
     seat: Seat<Counter<D>>,
+    viewer: Option<Viewer>,
 }
 
 impl<'a, R, D: Disk> Model for Desk<'a, R, D>
@@ -39,32 +43,35 @@ where
     ghost use Rattle.std.specs.Prelude.{◌≡◌};
     ghost use Rattle.std.specs.Coded.{codes};
     ghost use Rattle.fes_filter.specs.contracts.filter.Filter as filter_row;
-    ghost use Rattle.store_turns.specs.Seats.{Seated, IsOfOpening};
+    ghost use Rattle.store_turns.specs.Published.{pairs_of};
+    ghost use Rattle.store_turns.specs.Seats.{Seated, HasViewer, IsOfOpening};
     ghost use Rattle.turnstile_core.specs.Seats.{name_of, turnstile_of, past, IsFree};
 
     ghost Value = { Seated D };
 
     ghost coded = { Prim.hlevel (codes, filter_row.the_row.coded, D.code) };
 
-    ghost view = { λ d. record { name = name_of d.turnstile.now; schema = d.schema.now; past = past d.seat } };
+    ghost view = { λ d. record { name = name_of d.turnstile.now; schema = d.schema.now; past = past d.seat; found = pairs_of d.viewer } };
 
-    ghost invariant = { λ d. (turnstile_of d.seat ≡ name_of d.turnstile.now) × IsFree d.seat × ((past d.seat).number ≡ d.number) × IsOfOpening d.schema.now (past d.seat) };
+    ghost invariant = { λ d. (turnstile_of d.seat ≡ name_of d.turnstile.now) × IsFree d.seat × ((past d.seat).number ≡ d.number) × IsOfOpening d.schema.now (past d.seat) × HasViewer d.schema.now (past d.seat) d.viewer };
 }
 
 impl<'a, R: Wait, D: Disk> Desk<'a, R, D> {
-    /// A desk of this seat, which holds no turn and has this number.
+    /// A desk of this seat, which holds no turn and has this number, and of this viewer.
     pub fn of(
         rt: &'a R,
         turnstile: &'a Turnstile<Counter<D>>,
         schema: &'a Schema,
         number: u32,
         seat: Seat<Counter<D>>,
+        viewer: Option<Viewer>,
     ) -> Desk<'a, R, D>
         requires own { turnstile_of seat ≡ name_of turnstile.now }
         requires free { IsFree seat }
         requires number { (past seat).number ≡ number }
         requires opening { IsOfOpening schema.now (past seat) }
-        ensures { result ≡ record { name = name_of turnstile.now; schema = schema.now; past = past seat } }
+        requires viewer { HasViewer schema.now (past seat) viewer }
+        ensures { result ≡ record { name = name_of turnstile.now; schema = schema.now; past = past seat; found = pairs_of viewer } }
     {
         Desk {
             rt,
@@ -72,17 +79,20 @@ impl<'a, R: Wait, D: Disk> Desk<'a, R, D> {
             schema,
             number,
             seat,
+            viewer,
         }
     }
 
-    /// The seat, which holds no turn.
-    pub fn into_seat(self) -> Seat<Counter<D>>
-        ensures own { turnstile_of result ≡ self.entry.name }
-        ensures free { IsFree result }
-        ensures past { past result ≡ self.entry.past }
+    /// The seat, which holds no turn, and the viewer.
+    pub fn leave(self) -> (Seat<Counter<D>>, Option<Viewer>)
+        ensures own { turnstile_of result.0 ≡ self.entry.name }
+        ensures free { IsFree result.0 }
+        ensures past { past result.0 ≡ self.entry.past }
+        ensures viewer { HasViewer self.entry.schema self.entry.past result.1 }
+        ensures found { pairs_of result.1 ≡ self.entry.found }
     {
-        let Desk { seat, .. } = self;
-        seat
+        let Desk { seat, viewer, .. } = self;
+        (seat, viewer)
     }
 }
 
@@ -114,8 +124,10 @@ impl<'a, R: Wait, D: Disk> Service for Desk<'a, R, D> {
         match read_asked(alloc, message, self.schema) {
             Ok(request) => carry_out(
                 self.rt,
+                alloc,
                 self.turnstile,
                 &mut self.seat,
+                &mut self.viewer,
                 self.number,
                 self.schema,
                 message,

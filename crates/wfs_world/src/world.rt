@@ -17,7 +17,7 @@ use crate::scene::Scene;
 use feature_values::Schema;
 use std::alloc::Global;
 use std::marker::Model;
-use wfs_ends::Mem;
+use wfs_ends::{Mem, OutOfMemory};
 use wfs_machine::Plain;
 use wfs_model::{Entry, Reply, Request};
 
@@ -138,8 +138,12 @@ impl World {
             self.scene.found(),
             self.scene.number(),
         )?;
-        step_all(&mut machine, &entries[..front])?;
-        machine.read(moment, request)
+        let reply = match step_all(&mut machine, &entries[..front]) {
+            Ok(()) => machine.read(moment, request),
+            Err(OutOfMemory) => Err(OutOfMemory),
+        };
+        drop(machine);
+        reply
     }
 
     /// A read is answered by the state after so many entries.

@@ -18,6 +18,8 @@ use wfs_ends::{ListClock, Mem, MemLink, OutOfMemory};
 use wfs_model::Limits;
 use wfs_store::Store;
 
+mod beside;
+
 const SCHEMA: &str =
     "title = \"Marks\"\naddress = \"http://localhost:8080/wfs\"\nnamespace = \"http://example.org/marks\"\nprefix = \"m\"\nsrs = [\"urn:ogc:def:crs:EPSG::25832\", \"EPSG:25832\"]\n[[type]]\nname = \"Mark\"\nproperty = [ {name=\"label\", kind=\"text\", required=true, max=40} ]\n";
 
@@ -74,14 +76,17 @@ enum Role {
     Changes,
     // Is held before its first answer until the other is at its gate, and tells when it has its second answer.
     Reads,
+    // Tells, in its turn of this number, counted from 0, that it is there, and is held in it until the other has its second answer.
+    Holds(u64),
 }
 
-// The gate of a worker, with how many answers it has had.
+// The gate of a worker, with how many answers and turns it has had.
 #[derive(Drop)]
 struct Post<'a> {
     signals: &'a Signals,
     role: Role,
     answers: u64,
+    turns: u64,
 }
 
 // Waits until a signal is given. It gives up behind a limit of looks, and says so.
@@ -104,15 +109,29 @@ fn meet(signals: &Signals, role: Role, is_first: bool) {
         }
         Role::Reads if is_first => wait_for(&signals.first, &signals.late),
         Role::Reads => signals.second.store(1, Ordering::SeqCst),
-        Role::Free => {}
+        Role::Free | Role::Holds(_) => {}
+    }
+}
+
+// What a worker does in a turn.
+fn hold(signals: &Signals, role: Role, turn: u64) {
+    if role == Role::Holds(turn) {
+        signals.first.store(1, Ordering::SeqCst);
+        wait_for(&signals.second, &signals.late);
     }
 }
 
 impl<'a> Gate for Post<'a> {
     fn reach(&mut self, point: GatePoint) {
-        if point == GatePoint::BeforeAnswer {
-            meet(self.signals, self.role, self.answers == 0);
-            self.answers = self.answers.saturating_add(1);
+        match point {
+            GatePoint::InTurn => {
+                hold(self.signals, self.role, self.turns);
+                self.turns = self.turns.saturating_add(1);
+            }
+            GatePoint::BeforeAnswer => {
+                meet(self.signals, self.role, self.answers == 0);
+                self.answers = self.answers.saturating_add(1);
+            }
         }
     }
 }
@@ -171,6 +190,7 @@ fn slot<'a>(alloc: Global, signals: &'a Signals, role: Role, input: &str) -> Mem
         signals,
         role,
         answers: 0,
+        turns: 0,
     };
     Ok(Slot {
         acceptor,

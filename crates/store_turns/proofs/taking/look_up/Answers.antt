@@ -1,41 +1,30 @@
--- A read in a seat's turn.
-use Rattle.std.proofs.Common.{refl}
-use Rattle.store_turns.proofs.Taken.{found_by, schema_found, fits_there, passed_alone, answers_read, answers_none, knows_read}
+-- A read is answered from what is published, or in a turn.
+use Rattle.std.proofs.Common.{List, sym, subst}
+use Rattle.snapshot_reads.specs.declared.book.Pair.{Pair}
+use Rattle.store_turns.specs.Published.{FindsOne, pairs_of}
+use Rattle.store_turns.specs.Knowing.{knows_both}
+use Rattle.store_turns.proofs.Taken.{answers_behind, found_more, knows_looks, opening_still}
 use Rattle.store_turns.proofs.taking.look_up.Goals as goal
 use Rattle.turnstile_core.specs.Seats.{past}
 
-pub read-read-requires-clause-fitting : goal.read-read-requires-clause-fitting
-read-read-requires-clause-fitting g c =
-    let found = found_by g.D.Disk.faults (past c.args.seat.now) c.take_turn-turn.result.value c.take_turn-turn.ensures.value in
-    let same = schema_found g.D.Disk.faults c.args._schema.now (past c.args.seat.now) c.take_turn-turn.result.value.store c.requires.opening found in
-    fits_there c.args._schema.now c.take_turn-turn.result.value.store.schema c.args.request.now c.args.request.now same refl c.requires.fitting
+pub look_up_in_turn-requires-clause-opening : goal.look_up_in_turn-requires-clause-opening
+look_up_in_turn-requires-clause-opening g c =
+    opening_still c.args.schema.now (past c.args.seat.now) (past c.look_up_published.new.seat) c.requires.opening (knows_looks _ _ c.look_up_published.ensures.looked)
 
-pub returns-in-Ok-clause-answers : goal.returns-in-Ok-clause-answers
-returns-in-Ok-clause-answers g c =
-    let found = found_by g.D.Disk.faults (past c.args.seat.now) c.take_turn-turn.result.value c.take_turn-turn.ensures.value in
-    let knows = passed_alone (past c.args.seat.now) (past c.take_turn-turn.new.seat) (past c.pass_on.new.seat) c.take_turn-turn.result.value c.take_turn-turn.result.value
-    c.take_turn-turn.ensures.seat c.pass_on.ensures.seat in
-    answers_read g.D.Disk.faults c.args._schema.now (past c.args.seat.now) c.take_turn-turn.result.value.store c.requires.opening found (past c.pass_on.new.seat) knows
-    c.args._message.now c.args.moment c.args.request.now c.requires.asked c.requires.read c.in-Ok.reply _ c.in-Ok.ensures refl
+pub returns-in-Some-clause-knows : goal.returns-in-Some-clause-knows
+returns-in-Some-clause-knows g c = knows_looks _ _ c.look_up_published.ensures.looked
 
-pub returns-in-Ok-clause-knows : goal.returns-in-Ok-clause-knows
-returns-in-Ok-clause-knows g c =
-    let found = found_by g.D.Disk.faults (past c.args.seat.now) c.take_turn-turn.result.value c.take_turn-turn.ensures.value in
-    let knows = passed_alone (past c.args.seat.now) (past c.take_turn-turn.new.seat) (past c.pass_on.new.seat) c.take_turn-turn.result.value c.take_turn-turn.result.value
-    c.take_turn-turn.ensures.seat c.pass_on.ensures.seat in
-    knows_read g.D.Disk.faults c.args._schema.now (past c.args.seat.now) c.take_turn-turn.result.value.store c.requires.opening found (past c.pass_on.new.seat) knows
+pub returns-in-Some-clause-found : goal.returns-in-Some-clause-found
+returns-in-Some-clause-found g c = found_more _ _ c.look_up_published.ensures.one
 
-pub returns-in-Err-clause-answers : goal.returns-in-Err-clause-answers
-returns-in-Err-clause-answers g c =
-    let found = found_by g.D.Disk.faults (past c.args.seat.now) c.take_turn-turn.result.value c.take_turn-turn.ensures.value in
-    let knows = passed_alone (past c.args.seat.now) (past c.take_turn-turn.new.seat) (past c.pass_on.new.seat) c.take_turn-turn.result.value c.take_turn-turn.result.value
-    c.take_turn-turn.ensures.seat c.pass_on.ensures.seat in
-    answers_none g.D.Disk.faults c.args._schema.now (past c.args.seat.now) c.take_turn-turn.result.value.store c.requires.opening found (past c.pass_on.new.seat) knows
-    c.args._message.now c.args.moment c.args.request.now c.requires.asked c.requires.read _ refl
+pub returns-in-None-clause-answers : goal.returns-in-None-clause-answers
+returns-in-None-clause-answers g c =
+    let one = subst (λ (l : List Pair). FindsOne (pairs_of c.args.viewer.now) l) (sym c.look_up_in_turn.ensures.found) c.look_up_published.ensures.one in
+    answers_behind (past c.args.seat.now) (past c.look_up_published.new.seat) (pairs_of c.args.viewer.now) _ c.args.message.now c.args.moment _ (past c.look_up_in_turn.new.seat)
+    c.look_up_published.ensures.looked one c.look_up_in_turn.ensures.answers
 
-pub returns-in-Err-clause-knows : goal.returns-in-Err-clause-knows
-returns-in-Err-clause-knows g c =
-    let found = found_by g.D.Disk.faults (past c.args.seat.now) c.take_turn-turn.result.value c.take_turn-turn.ensures.value in
-    let knows = passed_alone (past c.args.seat.now) (past c.take_turn-turn.new.seat) (past c.pass_on.new.seat) c.take_turn-turn.result.value c.take_turn-turn.result.value
-    c.take_turn-turn.ensures.seat c.pass_on.ensures.seat in
-    knows_read g.D.Disk.faults c.args._schema.now (past c.args.seat.now) c.take_turn-turn.result.value.store c.requires.opening found (past c.pass_on.new.seat) knows
+pub returns-in-None-clause-knows : goal.returns-in-None-clause-knows
+returns-in-None-clause-knows g c = knows_both _ _ _ (knows_looks _ _ c.look_up_published.ensures.looked) c.look_up_in_turn.ensures.knows
+
+pub returns-in-None-clause-found : goal.returns-in-None-clause-found
+returns-in-None-clause-found g c = found_more _ _ (subst (λ (l : List Pair). FindsOne (pairs_of c.args.viewer.now) l) (sym c.look_up_in_turn.ensures.found) c.look_up_published.ensures.one)
