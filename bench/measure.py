@@ -18,7 +18,7 @@ ANSWERED = 0
 
 def spent(command: list) -> tuple:
     """The processor time in seconds and the greatest memory in KiB of one run of a command that ends with status 0."""
-    process = subprocess.Popen(command)
+    process = subprocess.Popen(command, stdout=subprocess.DEVNULL)
     _, status, used = os.wait4(process.pid, 0)
     process.returncode = os.waitstatus_to_exitcode(status)
     if process.returncode != 0:
