@@ -8,10 +8,10 @@ use std::marker::Model;
 use std::str;
 
 /// The most bytes of a text that lies in place: with their number and which kind of text it is they are 16 bytes.
-pub(crate) const MAX_IN_PLACE: usize = 14;
+pub const MAX_IN_PLACE: usize = 14;
 
 /// A text of at most `MAX_IN_PLACE` bytes. What follows them in `bytes` counts for nothing.
-#[derive(Debug, Drop)]
+#[derive(Drop)]
 pub(crate) struct ShortText {
     length: u8,
     bytes: [u8; MAX_IN_PLACE],

@@ -6,11 +6,11 @@ use std::test::Fail;
 static SENT: [(&str, &str); 18] = [
     (
         "PropertyIsEqualTo(|ValueReference=m:label|Literal=A|)",
-        "Compare { by: Equal, left: Property(0), right: Literal(Words(Text { shared: \"A\" })), fold: false }",
+        "Compare { by: Equal, left: Property(0), right: Literal(Words(\"A\")), fold: false }",
     ),
     (
         "PropertyIsEqualTo(|@matchCase=true|@matchAction=Any|ValueReference=label|Literal=A|)",
-        "Compare { by: Equal, left: Property(0), right: Literal(Words(Text { shared: \"A\" })), fold: false }",
+        "Compare { by: Equal, left: Property(0), right: Literal(Words(\"A\")), fold: false }",
     ),
     // as GDAL sends LIKE
     (
@@ -31,7 +31,7 @@ static SENT: [(&str, &str); 18] = [
     ),
     (
         "PropertyIsNotEqualTo(|@matchCase=false|@matchAction=One|Literal=long text|ValueReference=m:label|)",
-        "Compare { by: NotEqual, left: Literal(Words(Text { shared: \"long text\" })), right: Property(0), fold: true }",
+        "Compare { by: NotEqual, left: Literal(Words(\"long text\")), right: Property(0), fold: true }",
     ),
     (
         "PropertyIsGreaterThanOrEqualTo(|ValueReference=m:size|Literal= -7 |)",
@@ -91,7 +91,7 @@ static MORE: [(&str, &str); 12] = [
     ),
     (
         "PropertyIsLessThanOrEqualTo(|ValueReference=:label|Literal=|)",
-        "Compare { by: LessEqual, left: Property(0), right: Literal(Words(Text { shared: \"\" })), fold: false }",
+        "Compare { by: LessEqual, left: Property(0), right: Literal(Words(\"\")), fold: false }",
     ),
     (
         "PropertyIsGreaterThan(|@x:id=1|ValueReference=a:size|Literal=+5|)",
@@ -103,7 +103,7 @@ static MORE: [(&str, &str); 12] = [
     ),
     (
         "PropertyIsEqualTo(|ValueReference=label|Literal=${id}|)",
-        "Compare { by: Equal, left: Property(0), right: Literal(Words(Text { shared: \"${id}\" })), fold: false }",
+        "Compare { by: Equal, left: Property(0), right: Literal(Words(\"${id}\")), fold: false }",
     ),
     ("ResourceId(|@rid=${id}|)", "Ids(List { items: [Nobody] })"),
     ("ResourceId(|@rid=|)", "Ids(List { items: [Nobody] })"),
@@ -121,7 +121,7 @@ static MORE: [(&str, &str); 12] = [
     ),
     (
         "PropertyIsBetween(|ValueReference=label|LowerBoundary(|Literal=b|)|UpperBoundary(|Literal=a|)|)",
-        "Between { property: 0, low: Literal(Words(Text { shared: \"b\" })), high: Literal(Words(Text { shared: \"a\" })) }",
+        "Between { property: 0, low: Literal(Words(\"b\")), high: Literal(Words(\"a\")) }",
     ),
     (
         "Not(|Not(|ResourceId(|@rid=Mark.18446744073709551615|)|)|)",
@@ -155,7 +155,7 @@ static STORED: [(&str, &str); 8] = [
     ),
     (
         "PropertyIsEqualTo(|ValueReference=label|Literal= ${id}|)",
-        "Compare { by: Equal, left: Property(0), right: Literal(Words(Text { shared: \" ${id}\" })), fold: false }",
+        "Compare { by: Equal, left: Property(0), right: Literal(Words(\" ${id}\")), fold: false }",
     ),
     (
         "PropertyIsLike(|@wildCard=*|@singleChar=.|@escapeChar=!|ValueReference=label|Literal=$|)",
