@@ -26,7 +26,8 @@ fn quoted_at(cs: &str) -> Result<(&str, &str), DocFault>
 /// White space, a word, an equals sign and a value.
 #[tactic(auto, unfolding(crate::specs::Declaration::setting_at, wfs_ends::specs::Read::unless))]
 fn setting_at(word: Word, cs: &str) -> Result<(&str, &str), DocFault>
-    ensures { GivesBy (λ x. (chars x.0.now, chars x.1.now)) result (setting_at word (chars cs.now)) }
+    ensures { GivesBy (λ x. (chars x.0.now, chars x.1.now)) result
+        (setting_at word (chars cs.now)) }
 {
     if !starts(Class::Space, cs) {
         return Err(DocFault::Malformed);

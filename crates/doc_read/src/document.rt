@@ -25,7 +25,8 @@ const MAX_DEPTH: u32 = 32;
 
 #[tactic(auto, unfolding(crate::specs::Document::line_piece))]
 fn add_character(found: &mut String, was_return: bool, c: char) -> Result<(), AllocError>
-    ensures { OnOk result (string_bytes found.new ≡ string_bytes found.old ++ encode_utf8_all (line_piece was_return c)) }
+    ensures { OnOk result (string_bytes found.new
+        ≡ string_bytes found.old ++ encode_utf8_all (line_piece was_return c)) }
 {
     if c == '\r' {
         found.push('\n')?;
@@ -40,7 +41,8 @@ fn add_character(found: &mut String, was_return: bool, c: char) -> Result<(), Al
 
 #[tactic(auto, using(crate::proofs::Text::line_turn, crate::proofs::Text::line_end, std::proofs::Common::append_assoc))]
 fn line_feeds(alloc: Global, cs: &str) -> Result<String, AllocError>
-    ensures { IfOk result (λ text. string_bytes text ≡ encode_utf8_all (line_feeds false (chars cs.now))) }
+    ensures { IfOk result (λ text. string_bytes text
+        ≡ encode_utf8_all (line_feeds false (chars cs.now))) }
 {
     let mut found = String::new(alloc);
     let mut was_return = false;
@@ -100,7 +102,7 @@ fn tree_at(alloc: Global, cs: &str) -> Result<Element, DocFault>
     let rest = expected_at('<', rest)?;
     let mut scope = Vec::new(alloc);
     scope.push(xml_level(alloc)?)?;
-    let mut texts = Texts::new(alloc)?;
+    let mut texts = Texts::new(alloc);
     let (root, _, rest) = element(alloc, &mut texts, MAX_DEPTH, &mut scope, 0, rest)?;
     let rest = misc_at(rest)?;
     if !is_empty(rest) {

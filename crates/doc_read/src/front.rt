@@ -8,7 +8,9 @@ ghost use Rattle.doc_read.specs.Rest.{IsRest};
 /// The first character, and what comes after it.
 #[inline]
 pub fn first(text: &str) -> Option<(char, &str)>
-    ensures { MatchOption result (chars text.now ≡ []) (λ (c, rest). (chars text.now ≡ c ∷ chars rest.now) × (length rest.now < length text.now) × (text.now ≡ encode_utf8 c ++ rest.now)) }
+    ensures { MatchOption result (chars text.now ≡ [])
+        (λ (c, rest). (chars text.now ≡ c ∷ chars rest.now) × (length rest.now < length text.now)
+        × (text.now ≡ encode_utf8 c ++ rest.now)) }
 {
     let mut chars = text.chars();
     match chars.next() {

@@ -34,10 +34,11 @@ pub fn head_at<'a>(
     scope: &mut Vec<Level>,
     cs: &'a str,
 ) -> Result<(Head<'a>, &'a str), DocFault>
-    ensures reads { GivesBy (λ x. (head_of (bounds_of scope.new.items) x.0, chars x.1.now)) result (head_at (bounds_of scope.old.items) (chars cs.now)) }
+    ensures reads { GivesBy (λ x. (head_of (bounds_of scope.new.items) x.0, chars x.1.now)) result
+        (head_at (bounds_of scope.old.items) (chars cs.now)) }
     ensures outer { OnOk result (take (vec_len scope.old) scope.new.items ≡ scope.old.items) }
 {
-    let (tag, rest) = tag_at(alloc, texts, cs)?;
+    let (tag, rest) = tag_at(alloc, cs)?;
     if have_one_spelling(alloc, &tag.attributes)? {
         return Err(DocFault::Malformed);
     }

@@ -13,7 +13,6 @@ use crate::fault::DocFault;
 use crate::front::has;
 use crate::head::Head;
 use crate::lex::{Class, Spelled, expected_at, skip_space, spelled_at, split_front};
-use crate::texts::Texts;
 use crate::twins::same_spelling;
 use crate::word::{Word, begins, contains, split_word, word_at};
 use doc_tree::{Attribute, Element, QName};
@@ -124,21 +123,21 @@ pub fn tree(name: QName, attributes: Vec<Attribute>, children: Vec<Element>, tex
 #[tactic(auto, unfolding(crate::specs::Element::made))]
 pub fn made(
     alloc: Global,
-    texts: &mut Texts,
     head: Head<'_>,
     children: Vec<Element>,
     text: String,
 ) -> Result<Element, DocFault>
-    ensures { Gives result (made head.entry.name head.entry.attributes.items children.items (string_bytes text)) }
+    ensures { Gives result (made head.entry.name head.entry.attributes.items children.items
+        (string_bytes text)) }
 {
     if children.is_empty() {
-        let text = texts.of_string(alloc, text)?;
+        let text = Text::of_string(text)?;
         return Ok(tree(head.name, head.attributes, children, text));
     }
     if !is_blank(text.as_str()) {
         return Err(DocFault::Malformed);
     }
-    let text = texts.of(alloc, "")?;
+    let text = Text::of(alloc, "")?;
     let mut children = children;
     children.shrink_to_fit();
     Ok(tree(head.name, head.attributes, children, text))

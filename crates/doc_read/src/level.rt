@@ -15,11 +15,13 @@ use wfs_ends::{Mem, Text};
 pub struct Level {
     pub bounds: Vec<Bound>,
     pub spaces: BTreeMap<String, Text>,
-    ghost looked_up: { (prefix : List ℕ) → get_by_text spaces prefix ≡ newest prefix None bounds.items },
+    ghost looked_up: { (prefix : List ℕ) → get_by_text spaces prefix
+        ≡ newest prefix None bounds.items },
 }
 
 fn spaces_of(alloc: Global, bounds: &[Bound]) -> Mem<BTreeMap<String, Text>>
-    ensures { IfOk result (λ spaces. (prefix : List ℕ) → get_by_text spaces prefix ≡ newest prefix None bounds.now) }
+    ensures { IfOk result (λ spaces. (prefix : List ℕ)
+        → get_by_text spaces prefix ≡ newest prefix None bounds.now) }
 {
     let mut spaces = BTreeMap::new(alloc);
     for bound in bounds {

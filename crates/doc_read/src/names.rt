@@ -21,7 +21,8 @@ use wfs_ends::{Mem, Text};
 
 #[tactic(auto, using(crate::proofs::Scopes::newest_found, crate::proofs::Scopes::newest_none))]
 fn newer<'s>(found: Option<&'s Text>, level: &'s Level, prefix: &str) -> Option<&'s Text>
-    ensures { option_copied result ≡ newest prefix.now (option_copied found.entry) level.now.bounds.items }
+    ensures { option_copied result ≡ newest prefix.now (option_copied found.entry)
+        level.now.bounds.items }
 {
     match level.space_of(prefix) {
         Some(space) => Some(space),
@@ -48,7 +49,10 @@ fn space_of<'s>(scope: &'s [Level], prefix: &str) -> Option<&'s Text>
 }
 
 fn qname(alloc: Global, texts: &mut Texts, space: Text, local: &str) -> Mem<QName>
-    ensures { IfOk result (λ n. n ≡ record { space = space; local = encode_utf8_all (chars local.now) }) }
+    ensures { IfOk result (λ n. n ≡ record {
+      space = space;
+      local = encode_utf8_all (chars local.now);
+    }) }
 {
     Ok(QName {
         space,
@@ -70,7 +74,7 @@ pub fn element_name(
         Some(space) => Ok(qname(alloc, texts, space.copy(alloc)?, s.local)?),
         None => {
             if is_empty(s.prefix) {
-                let none = texts.of(alloc, "")?;
+                let none = Text::of(alloc, "")?;
                 Ok(qname(alloc, texts, none, s.local)?)
             } else {
                 Err(DocFault::Prefix)
@@ -85,7 +89,11 @@ fn attribute(
     space: Text,
     raw: &RawAttribute<'_>,
 ) -> Mem<Attribute>
-    ensures { IfOk result (λ a. a ≡ record { name = record { space = space; local = encode_utf8_all (chars raw.now.name.local.now) }; value = raw.now.value }) }
+    ensures { IfOk result (λ a. a ≡ record {
+      name =
+          record { space = space; local = encode_utf8_all (chars raw.now.name.local.now) };
+      value = raw.now.value;
+    }) }
 {
     Ok(Attribute {
         name: qname(alloc, texts, space, raw.name.local)?,
@@ -101,13 +109,14 @@ fn add_attribute(
     found: &mut Vec<Attribute>,
     raw: &RawAttribute<'_>,
 ) -> Mem<()>
-    ensures { OnOk result (found.new.items ≡ found.old.items ++ attribute_of (bounds_of scope.now) (raw_of raw.now)) }
+    ensures { OnOk result (found.new.items ≡ found.old.items
+        ++ attribute_of (bounds_of scope.now) (raw_of raw.now)) }
 {
     if is_declaration(&raw.name) {
         return Ok(());
     }
     if is_empty(raw.name.prefix) {
-        let none = texts.of(alloc, "")?;
+        let none = Text::of(alloc, "")?;
         found.push(attribute(alloc, texts, none, raw)?)?;
         return Ok(());
     }
@@ -128,7 +137,8 @@ pub fn attributes_in(
     scope: &[Level],
     raws: &[RawAttribute<'_>],
 ) -> Mem<Vec<Attribute>>
-    ensures { IfOk result (λ v. v.items ≡ attributes_in (bounds_of scope.now) (map raw_of raws.now)) }
+    ensures { IfOk result (λ v. v.items ≡ attributes_in (bounds_of scope.now)
+        (map raw_of raws.now)) }
 {
     let mut found = Vec::with_capacity(alloc, raws.len())?;
     for raw in raws {

@@ -84,7 +84,8 @@ fn allowed_char(code: u32) -> Option<char>
 fn number_reference_at(digits: Class, base: u32, cs: &str) -> Result<(char, &str), DocFault>
     requires positive { 0 < base }
     requires small { base ≤ 16 }
-    ensures { GivesBy (λ x. (x.0, chars x.1.now)) result (number_reference_at digits base (chars cs.now)) }
+    ensures { GivesBy (λ x. (x.0, chars x.1.now)) result
+        (number_reference_at digits base (chars cs.now)) }
 {
     if !starts(digits, cs) {
         return Err(DocFault::Malformed);

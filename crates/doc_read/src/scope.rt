@@ -57,7 +57,8 @@ fn is_xml(s: &Spelled<'_>) -> bool
 }
 
 fn declared_prefix(alloc: Global, s: &Spelled<'_>) -> Mem<Text>
-    ensures { IfOk result (λ t. t ≡ (if is_default (spelled s.now) then [] else encode_utf8_all (chars s.now.local.now))) }
+    ensures { IfOk result (λ t. t ≡ (if is_default (spelled s.now) then [] else encode_utf8_all
+        (chars s.now.local.now))) }
 {
     if is_default(s) {
         Text::of(alloc, "")
@@ -83,7 +84,8 @@ fn unbinds(r: &RawAttribute<'_>) -> bool
 
 #[tactic(auto, unfolding(crate::specs::Scope::declared_step))]
 fn declare(alloc: Global, found: &mut Vec<Bound>, raw: &RawAttribute<'_>) -> Result<(), DocFault>
-    ensures { GivesBy (λ _. found.new.items) result (declared_step found.old.items (raw_of raw.now)) }
+    ensures { GivesBy (λ _. found.new.items) result
+        (declared_step found.old.items (raw_of raw.now)) }
 {
     if !is_declaration(&raw.name) {
         return Ok(());

@@ -8,7 +8,6 @@ ghost use Rattle.doc_read.specs.Lex.{raw_of, raw_attribute_at, attributes_at, ta
 use crate::fault::DocFault;
 use crate::front::first;
 use crate::lex::{Class, Spelled, expected_at, skip_space, spelled_at, starts};
-use crate::texts::Texts;
 use crate::value::value_at;
 use std::alloc::Global;
 use wfs_ends::Text;
@@ -21,16 +20,12 @@ pub struct RawAttribute<'a> {
 }
 
 #[tactic(auto, unfolding(crate::specs::Lex::raw_attribute_at))]
-fn raw_attribute_at<'a>(
-    alloc: Global,
-    texts: &mut Texts,
-    cs: &'a str,
-) -> Result<(RawAttribute<'a>, &'a str), DocFault>
+fn raw_attribute_at<'a>(alloc: Global, cs: &'a str) -> Result<(RawAttribute<'a>, &'a str), DocFault>
     ensures { GivesBy (λ x. (raw_of x.0, chars x.1.now)) result (raw_attribute_at (chars cs.now)) }
 {
     let (name, rest) = spelled_at(cs)?;
     let rest = expected_at('=', skip_space(rest))?;
-    let (value, rest) = value_at(alloc, texts, skip_space(rest))?;
+    let (value, rest) = value_at(alloc, skip_space(rest))?;
     Ok((RawAttribute { name, value }, rest))
 }
 
@@ -38,10 +33,10 @@ fn raw_attribute_at<'a>(
 #[tactic(auto, using(crate::proofs::Tags::attributes_turn, crate::proofs::Tags::attributes_out, crate::proofs::Enough::attributes_enough, std::proofs::lemmas::List::map_push))]
 fn attributes_at<'a>(
     alloc: Global,
-    texts: &mut Texts,
     cs: &'a str,
 ) -> Result<(Vec<RawAttribute<'a>>, &'a str), DocFault>
-    ensures { GivesBy (λ x. (map raw_of x.0.items, chars x.1.now)) result (attributes_at (length (chars cs.now)) [] (chars cs.now)) }
+    ensures { GivesBy (λ x. (map raw_of x.0.items, chars x.1.now)) result
+        (attributes_at (length (chars cs.now)) [] (chars cs.now)) }
 {
     let mut found = Vec::new(alloc);
     let mut rest = cs;
@@ -53,7 +48,7 @@ fn attributes_at<'a>(
         if !starts(Class::Space, rest) {
             return Err(DocFault::Malformed);
         }
-        let (attribute, next) = raw_attribute_at(alloc, texts, after)?;
+        let (attribute, next) = raw_attribute_at(alloc, after)?;
         found.push(attribute)?;
         rest = next;
     }
@@ -70,15 +65,11 @@ pub struct Tag<'a> {
 
 /// A start tag behind its less-than sign.
 #[tactic(auto, unfolding(crate::specs::Lex::tag_at))]
-pub fn tag_at<'a>(
-    alloc: Global,
-    texts: &mut Texts,
-    cs: &'a str,
-) -> Result<(Tag<'a>, &'a str), DocFault>
+pub fn tag_at<'a>(alloc: Global, cs: &'a str) -> Result<(Tag<'a>, &'a str), DocFault>
     ensures { GivesBy (λ x. (tag_of x.0, chars x.1.now)) result (tag_at (chars cs.now)) }
 {
     let (name, rest) = spelled_at(cs)?;
-    let (attributes, rest) = attributes_at(alloc, texts, rest)?;
+    let (attributes, rest) = attributes_at(alloc, rest)?;
     match first(rest) {
         Some(('>', rest)) => Ok((
             Tag {

@@ -4,96 +4,61 @@ ghost use Rattle.std.specs.Prelude.{◌≡◌, IfOk, string_bytes, encode_utf8_a
 ghost use Rattle.std.specs.Str.{chars};
 
 use std::alloc::Global;
-use wfs_ends::{Mem, Text};
+use wfs_ends::{MAX_IN_PLACE, Mem, Text};
 
-const ROWS: usize = 128;
-
-const COLUMNS: usize = 128;
-
-// The places of one byte and of two come first; longer texts share what is left.
-const SECOND: usize = 78;
-
-const LONGER: usize = COLUMNS - SECOND - 1;
-
-// One place for each text that was made, or none before the first.
-#[derive(Drop)]
-struct Row {
-    texts: Vec<Text>,
-}
-
-impl Row {
-    fn fill(&mut self, alloc: Global) -> Mem<()> {
-        let empty = Text::of(alloc, "")?;
-        for _ in 0..COLUMNS {
-            self.texts.push(empty.copy(alloc)?)?;
-        }
-        Ok(())
-    }
-
-    // The text, which is made where another one has its place.
-    fn of(&mut self, alloc: Global, column: usize, text: &str) -> Mem<Text>
-        ensures { IfOk result (λ t. t ≡ text.now) }
-    {
-        if self.texts.is_empty() {
-            self.fill(alloc)?;
-        }
-        if column >= self.texts.len() {
-            return Text::of(alloc, text);
-        }
-        if self.texts[column].as_str() == text {
-            return self.texts[column].copy(alloc);
-        }
-        let made = Text::of(alloc, text)?;
-        self.texts[column] = made.copy(alloc)?;
-        Ok(made)
-    }
-}
+const PLACES: usize = 256;
 
 /// The texts that were made for a document, each in a place that its bytes tell. Of the texts with one place the last is
-/// kept. Names of one or two characters have places of their own.
+/// kept. Texts that lie in place share nothing, and are not kept.
 #[derive(Drop)]
 pub struct Texts {
-    rows: Vec<Row>,
+    // One text for each place, or none before the first that is kept.
+    kept: Vec<Text>,
 }
 
-fn hash(bytes: &[u8]) -> usize {
+fn place_of(bytes: &[u8]) -> usize {
     let mut hash = 0usize;
     for byte in bytes {
         hash = hash.wrapping_mul(31).wrapping_add(*byte as usize);
     }
-    hash
-}
-
-// The row of a text, and its place there.
-fn place_of(bytes: &[u8]) -> (usize, usize) {
-    match bytes {
-        [] => (0, 0),
-        [a] => (*a as usize, 0),
-        [a, b] => (*a as usize, 1 + *b as usize % SECOND),
-        [a, rest @ ..] => (*a as usize, 1 + SECOND + hash(rest) % LONGER),
-    }
+    hash % PLACES
 }
 
 impl Texts {
-    pub fn new(alloc: Global) -> Mem<Texts> {
-        let mut rows = Vec::with_capacity(alloc, ROWS)?;
-        for _ in 0..ROWS {
-            rows.push(Row {
-                texts: Vec::new(alloc),
-            })?;
+    pub fn new(alloc: Global) -> Texts {
+        Texts {
+            kept: Vec::new(alloc),
         }
-        Ok(Texts { rows })
+    }
+
+    fn fill(&mut self, alloc: Global) -> Mem<()> {
+        self.kept.reserve_exact(PLACES)?;
+        for _ in 0..PLACES {
+            self.kept.push(Text::of(alloc, "")?)?;
+        }
+        Ok(())
     }
 
     /// The text, which shares its bytes with the last equal one where that still has its place.
     pub fn of(&mut self, alloc: Global, text: &str) -> Mem<Text>
         ensures { IfOk result (λ t. t ≡ text.now) }
     {
-        let (row, column) = place_of(text.as_bytes());
-        if row >= self.rows.len() {
+        if text.len() <= MAX_IN_PLACE {
             return Text::of(alloc, text);
         }
-        self.rows[row].of(alloc, column, text)
+        if self.kept.is_empty() {
+            self.fill(alloc)?;
+        }
+        let place = place_of(text.as_bytes());
+        if place >= self.kept.len() {
+            return Text::of(alloc, text);
+        }
+        if self.kept[place].as_str() == text {
+            return self.kept[place].copy(alloc);
+        }
+        let made = Text::of(alloc, text)?;
+        self.kept[place] = made.copy(alloc)?;
+        Ok(made)
     }
 
     /// The text of a name.
@@ -101,15 +66,5 @@ impl Texts {
         ensures { IfOk result (λ t. t ≡ encode_utf8_all (chars name.now)) }
     {
         self.of(alloc, name)
-    }
-
-    /// The text of a `String`. Empty ones are shared.
-    pub fn of_string(&mut self, alloc: Global, text: String) -> Mem<Text>
-        ensures { IfOk result (λ t. t ≡ string_bytes text) }
-    {
-        if text.is_empty() {
-            return self.of(alloc, text.as_str());
-        }
-        Text::of_string(text)
     }
 }

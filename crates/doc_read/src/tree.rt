@@ -16,6 +16,7 @@ use crate::texts::Texts;
 use crate::value::add_characters;
 use doc_tree::Element;
 use std::alloc::Global;
+use wfs_ends::Text;
 
 const MAX_ELEMENTS: u32 = 100_000;
 
@@ -45,7 +46,8 @@ pub fn element<'a>(
     seen: u32,
     cs: &'a str,
 ) -> Result<(Element, u32, &'a str), DocFault>
-    ensures reads { GivesBy (λ x. (x.0, x.1, chars x.2.now)) result (element_at depth (bounds_of scope.old.items) seen (chars cs.now)) }
+    ensures reads { GivesBy (λ x. (x.0, x.1, chars x.2.now)) result
+        (element_at depth (bounds_of scope.old.items) seen (chars cs.now)) }
     ensures scope { OnOk result (scope.new.items ≡ scope.old.items) }
 {
     let outer = scope.len();
@@ -56,7 +58,7 @@ pub fn element<'a>(
     admit(seen, head.attributes.len())?;
     if head.is_empty {
         scope.truncate(outer);
-        let text = texts.of(alloc, "")?;
+        let text = Text::of(alloc, "")?;
         let element = tree(head.name, head.attributes, Vec::new(alloc), text);
         return Ok((element, seen + 1, rest));
     }
@@ -64,7 +66,7 @@ pub fn element<'a>(
     scope.truncate(outer);
     let rest = closed_at(&head.spelling, inside.rest)?;
     let seen = inside.seen;
-    let element = made(alloc, texts, head, inside.children, inside.text)?;
+    let element = made(alloc, head, inside.children, inside.text)?;
     Ok((element, seen, rest))
 }
 
@@ -79,7 +81,8 @@ fn content<'a>(
     seen: u32,
     cs: &'a str,
 ) -> Result<Inside<'a>, DocFault>
-    ensures reads { GivesBy inside_of result (content_at (element_at depth (bounds_of scope.old.items)) seen (chars cs.now)) }
+    ensures reads { GivesBy inside_of result (content_at
+        (element_at depth (bounds_of scope.old.items)) seen (chars cs.now)) }
     ensures scope { OnOk result (scope.new.items ≡ scope.old.items) }
 {
     let mut inside = Inside {
@@ -108,7 +111,8 @@ fn turn<'a>(
     scope: &mut Vec<Level>,
     inside: Inside<'a>,
 ) -> Result<(bool, Inside<'a>), DocFault>
-    ensures reads { GivesBy (λ x. (x.0, inside_of x.1)) result (turn_at (element_at depth (bounds_of scope.old.items)) (inside_of inside.entry)) }
+    ensures reads { GivesBy (λ x. (x.0, inside_of x.1)) result
+        (turn_at (element_at depth (bounds_of scope.old.items)) (inside_of inside.entry)) }
     ensures scope { OnOk result (scope.new.items ≡ scope.old.items) }
 {
     let Inside {

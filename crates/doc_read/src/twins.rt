@@ -71,7 +71,11 @@ fn have_twins(alloc: Global, pairs: &[(&str, &str)]) -> Mem<bool>
 }
 
 fn pair<'a>(prefix: &'a str, local: &'a str) -> (&'a str, &'a str)
-    ensures { texts result ≡ (encode_utf8_all (chars prefix.now), encode_utf8_all (chars local.now)) }
+    ensures { texts result ≡ (
+      encode_utf8_all (chars prefix.now),
+      encode_utf8_all
+          (chars local.now),
+    ) }
 {
     (prefix, local)
 }

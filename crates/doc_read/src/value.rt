@@ -9,12 +9,12 @@ use crate::fault::DocFault;
 use crate::front::first;
 use crate::lex::{Class, split_front};
 use crate::reference::reference_at;
-use crate::texts::Texts;
 use std::alloc::{AllocError, Global};
 use wfs_ends::Text;
 
 pub fn add_characters(text: &mut String, cs: &str) -> Result<(), AllocError>
-    ensures { OnOk result (string_bytes text.new ≡ string_bytes text.old ++ encode_utf8_all (chars cs.now)) }
+    ensures { OnOk result (string_bytes text.new
+        ≡ string_bytes text.old ++ encode_utf8_all (chars cs.now)) }
 {
     text.push_str(cs)
 }
@@ -28,7 +28,8 @@ fn plain(c: char) -> char
 /// White space in a value counts as spaces.
 #[tactic(auto, using(crate::proofs::Text::plain_turn, crate::proofs::Text::plain_end, std::proofs::Common::append_assoc))]
 fn add_plain(text: &mut String, cs: &str) -> Result<(), AllocError>
-    ensures { OnOk result (string_bytes text.new ≡ string_bytes text.old ++ encode_utf8_all (map plain (chars cs.now))) }
+    ensures { OnOk result (string_bytes text.new
+        ≡ string_bytes text.old ++ encode_utf8_all (map plain (chars cs.now))) }
 {
     let mut rest = cs;
     while let Some((c, after)) = first(rest) {
@@ -41,7 +42,8 @@ fn add_plain(text: &mut String, cs: &str) -> Result<(), AllocError>
 /// One piece of a value, and whether it was the quote that ends it.
 #[tactic(auto, unfolding(crate::specs::Lex::value_turn))]
 fn value_turn<'a>(quote: char, text: &mut String, cs: &'a str) -> Result<(bool, &'a str), DocFault>
-    ensures { GivesBy (λ x. (x.0, part (string_bytes text.new) (chars x.1.now))) result (value_turn quote (part (string_bytes text.old) (chars cs.now))) }
+    ensures { GivesBy (λ x. (x.0, part (string_bytes text.new) (chars x.1.now))) result
+        (value_turn quote (part (string_bytes text.old) (chars cs.now))) }
 {
     match first(cs) {
         None => Err(DocFault::Malformed),
@@ -63,7 +65,8 @@ fn value_turn<'a>(quote: char, text: &mut String, cs: &'a str) -> Result<(bool, 
 /// A value behind its quote.
 #[tactic(auto, using(wfs_ends::proofs::Turns::until_turn, wfs_ends::proofs::Turns::until_end, crate::proofs::Enough::value_enough))]
 fn inside_value(alloc: Global, quote: char, cs: &str) -> Result<(String, &str), DocFault>
-    ensures { GivesBy (λ x. part (string_bytes x.0) (chars x.1.now)) result (inside_value quote (chars cs.now)) }
+    ensures { GivesBy (λ x. part (string_bytes x.0) (chars x.1.now)) result
+        (inside_value quote (chars cs.now)) }
 {
     let mut text = String::new(alloc);
     let mut rest = cs;
@@ -78,17 +81,13 @@ fn inside_value(alloc: Global, quote: char, cs: &str) -> Result<(String, &str), 
 }
 
 #[tactic(auto, unfolding(crate::specs::Lex::value_at))]
-pub fn value_at<'a>(
-    alloc: Global,
-    texts: &mut Texts,
-    cs: &'a str,
-) -> Result<(Text, &'a str), DocFault>
+pub fn value_at<'a>(alloc: Global, cs: &'a str) -> Result<(Text, &'a str), DocFault>
     ensures { GivesBy (λ x. (x.0, chars x.1.now)) result (value_at (chars cs.now)) }
 {
     match first(cs) {
         Some((quote @ ('"' | '\''), after)) => {
             let (text, rest) = inside_value(alloc, quote, after)?;
-            Ok((texts.of_string(alloc, text)?, rest))
+            Ok((Text::of_string(text)?, rest))
         }
         _ => Err(DocFault::Malformed),
     }

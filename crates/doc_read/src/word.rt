@@ -117,7 +117,8 @@ pub fn contains(word: Word, cs: &str) -> bool
 /// What stands before the first place of the word, and what comes after the word.
 #[tactic(auto, using(crate::proofs::Words::split_turn, crate::proofs::Words::split_end))]
 pub fn split_word(word: Word, cs: &str) -> Result<(&str, &str), DocFault>
-    ensures { GivesBy (λ x. (chars x.0.now, chars x.1.now)) result (split_word word (chars cs.now)) }
+    ensures { GivesBy (λ x. (chars x.0.now, chars x.1.now)) result
+        (split_word word (chars cs.now)) }
 {
     let mut rest = cs;
     while let Some((_, next)) = first(rest) {
