@@ -31,15 +31,22 @@ fn add_all<D: Disk, R: RecordSource>(
     records: &mut R,
 ) -> Result<(), CompactFault>
     requires { (bodies : List (List ℕ)) × Makes D.shown D.images bodies [] (seen journal.old) }
-    ensures goes { (bodies : List (List ℕ)) → Makes D.shown D.images bodies [] (seen journal.old) → Always D.moment D.since (Says (bodies ∷ [])) (disks_of journal.old) (disks_of journal.new) }
-    ensures rests { (bodies : List (List ℕ)) → Makes D.shown D.images bodies [] (seen journal.old) → Rests D.images bodies (seen journal.new) }
-    ensures added { OnOk result ((bodies : List (List ℕ)) → Makes D.shown D.images bodies [] (seen journal.old) → Makes D.shown D.images bodies (R.left records.old) (seen journal.new)) }
+    ensures goes { (bodies : List (List ℕ)) → Makes D.shown D.images bodies [] (seen journal.old)
+        → Always D.moment D.since (Says (bodies ∷ [])) (disks_of journal.old)
+        (disks_of journal.new) }
+    ensures rests { (bodies : List (List ℕ)) → Makes D.shown D.images bodies [] (seen journal.old)
+        → Rests D.images bodies (seen journal.new) }
+    ensures added { OnOk result ((bodies : List (List ℕ))
+        → Makes D.shown D.images bodies [] (seen journal.old)
+        → Makes D.shown D.images bodies (R.left records.old) (seen journal.new)) }
     ensures same { SameSide journal.old journal.new }
     ensures emptied { OnOk result (R.left records.new ≡ []) }
-    ensures full { (sum : ℕ) → result ≡ Err (CompactFault.Full sum) → Passes (limit_of journal.old) sum (R.left records.old) }
+    ensures full { (sum : ℕ) → result ≡ Err (CompactFault.Full sum)
+        → Passes (limit_of journal.old) sum (R.left records.old) }
     ensures fits { OnOk result (side_length (R.left records.old) ≤ limit_of journal.old) }
     ensures count { NoneFell D.faults (disks_of journal.old) (disks_of journal.new) }
-    ensures cause { IsErrOf result CompactFault.DiskFault → OneRose D.faults (disks_of journal.old) (disks_of journal.new) }
+    ensures cause { IsErrOf result CompactFault.DiskFault
+        → OneRose D.faults (disks_of journal.old) (disks_of journal.new) }
 {
     let mut body = Vec::new(alloc);
     loop {
@@ -67,19 +74,35 @@ pub fn compact<D: Disk, R: RecordSource>(
     records: &mut R,
 ) -> Result<(), CompactFault>
     requires { (bodies : List (List ℕ)) × Rests D.images bodies (seen journal.old) }
-    ensures goes { (bodies : List (List ℕ)) → Rests D.images bodies (seen journal.old) → Always D.moment D.since (Says (bodies ∷ R.left records.old ∷ [])) (disks_of journal.old) (disks_of journal.new) }
-    ensures reaches { (bodies : List (List ℕ)) → Rests D.images bodies (seen journal.old) → Always D.moment D.since (Says (bodies ∷ [])) (disks_of journal.old) (disks_of journal.new) ⊎ AllByRecursion Fits (R.left records.old) }
+    ensures goes { (bodies : List (List ℕ)) → Rests D.images bodies (seen journal.old)
+        → Always D.moment D.since (Says (bodies ∷ R.left records.old ∷ [])) (disks_of journal.old)
+        (disks_of journal.new) }
+    ensures reaches { (bodies : List (List ℕ)) → Rests D.images bodies (seen journal.old)
+        → Always D.moment D.since (Says (bodies ∷ [])) (disks_of journal.old) (disks_of journal.new)
+        ⊎ AllByRecursion Fits (R.left records.old) }
     ensures done { OnOk result (Rests D.images (R.left records.old) (seen journal.new)) }
-    ensures turned { OnOk result ((is_second journal.new ≡ not (is_second journal.old)) × (generation_in journal.new ≡ generation_in journal.old + 1) × (length_of journal.new ≡ side_length (R.left records.old)) × (limit_of journal.new ≡ limit_of journal.old)) }
-    ensures fault { OnErr result ((bodies : List (List ℕ)) → Rests D.images bodies (seen journal.old) → Rests D.images bodies (seen journal.new) ⊎ BeganSide D.images bodies (R.left records.old) (seen journal.new)) }
-    ensures refused { OnErr result ((result ≡ Err CompactFault.DiskFault → ⊥) → (bodies : List (List ℕ)) → Rests D.images bodies (seen journal.old) → Rests D.images bodies (seen journal.new)) }
+    ensures turned { OnOk result ((is_second journal.new ≡ not (is_second journal.old))
+        × (generation_in journal.new ≡ generation_in journal.old + 1)
+        × (length_of journal.new ≡ side_length (R.left records.old))
+        × (limit_of journal.new ≡ limit_of journal.old)) }
+    ensures fault { OnErr result ((bodies : List (List ℕ))
+        → Rests D.images bodies (seen journal.old)
+        → Rests D.images bodies (seen journal.new)
+        ⊎ BeganSide D.images bodies (R.left records.old) (seen journal.new)) }
+    ensures refused { OnErr result ((result ≡ Err CompactFault.DiskFault → ⊥)
+        → (bodies : List (List ℕ)) → Rests D.images bodies (seen journal.old)
+        → Rests D.images bodies (seen journal.new)) }
     ensures same { OnErr result (SameSide journal.old journal.new) }
     ensures emptied { OnOk result (R.left records.new ≡ []) }
-    ensures last { generation_in journal.old ≡ last_count → (result ≡ Err (CompactFault.Full last_count)) × (journal.new ≡ journal.old) }
-    ensures full { (sum : ℕ) → result ≡ Err (CompactFault.Full sum) → (generation_in journal.old ≡ last_count) ⊎ Passes (limit_of journal.old) sum (R.left records.old) }
+    ensures last { generation_in journal.old ≡ last_count
+        → (result ≡ Err (CompactFault.Full last_count)) × (journal.new ≡ journal.old) }
+    ensures full { (sum : ℕ) → result ≡ Err (CompactFault.Full sum)
+        → (generation_in journal.old ≡ last_count)
+        ⊎ Passes (limit_of journal.old) sum (R.left records.old) }
     ensures fits { OnOk result (side_length (R.left records.old) ≤ limit_of journal.old) }
     ensures count { NoneFell D.faults (disks_of journal.old) (disks_of journal.new) }
-    ensures cause { IsErrOf result CompactFault.DiskFault → OneRose D.faults (disks_of journal.old) (disks_of journal.new) }
+    ensures cause { IsErrOf result CompactFault.DiskFault
+        → OneRose D.faults (disks_of journal.old) (disks_of journal.new) }
 {
     if journal.generation() == u64::MAX {
         return Err(CompactFault::Full(u64::MAX));

@@ -13,6 +13,7 @@ pub trait RecordSource {
     /// Makes `into` the first body that is left, takes it and answers true; or answers false, where none is left. Want
     /// of memory takes none.
     fn next_body(&mut self, into: &mut Vec<u8>) -> Mem<bool>
-        ensures gives { IfOk result (λ is_one. Gives is_one (left self.old) into.new.items (left self.new)) }
+        ensures gives { IfOk result (λ is_one. Gives is_one (left self.old) into.new.items
+            (left self.new)) }
         ensures kept { OnErr result (left self.new ≡ left self.old) };
 }

@@ -20,7 +20,8 @@ struct Greetings {
 impl RecordSource for Greetings {
     ghost use Rattle.std.specs.Prelude.{[], ◌∷◌, ◌++◌, if◌then◌else◌};
 
-    ghost left = { λ s. (if s.hi then (104 ∷ 105 ∷ []) ∷ [] else []) ++ (if s.ho then (104 ∷ 111 ∷ []) ∷ [] else []) };
+    ghost left = { λ s. (if s.hi then (104 ∷ 105 ∷ []) ∷ [] else [])
+        ++ (if s.ho then (104 ∷ 111 ∷ []) ∷ [] else []) };
 
     fn next_body(&mut self, into: &mut Vec<u8>) -> Mem<bool> {
         into.clear();

@@ -1,4 +1,5 @@
-// What was done to a file in memory. What was written stands in one list, `size` bytes of it from the place `from` on.
+//! What was done to a file in memory. What was written stands in one list, `size` bytes of it from the place `from` on.
+
 #[derive(Clone, Copy)]
 pub(crate) enum Call {
     Write { at: usize, from: usize, size: usize },

@@ -13,7 +13,8 @@ use crate::memory::put_over;
 #[tactic(auto, unfolding(crate::specs::Memory::unsynced_from))]
 fn count_on(count: usize, call: Call) -> usize
     requires { count + 1 < 2 ^ 64 }
-    ensures count { (text : List ℕ) (steps : List Step) → unsynced_from result steps ≡ unsynced_from count (step_of text call ∷ steps) }
+    ensures count { (text : List ℕ) (steps : List Step)
+        → unsynced_from result steps ≡ unsynced_from count (step_of text call ∷ steps) }
     ensures within { result ≤ count + 1 }
 {
     match call {

@@ -35,7 +35,9 @@ pub trait Disk {
     /// `into` and the number of bytes that stand there, which is 0 at or past the end.
     fn read(&mut self, at: u64, into: &mut [u8]) -> Result<usize, Failed>
         ensures within { IfOk result (λ n. n ≤ length into.old) }
-        ensures read { IfOk result (λ n. IfSome (shown self.old) (λ s. (n ≡ min (length into.old) (length s - at)) × (take n into.new ≡ take n (drop at s)))) }
+        ensures read { IfOk result (λ n. IfSome (shown self.old)
+            (λ s. (n ≡ min (length into.old) (length s - at))
+            × (take n into.new ≡ take n (drop at s)))) }
         ensures same { shown self.new ≡ shown self.old }
         ensures crash { Leads moment since images Same self.old self.new }
         ensures count { faults self.old ≤ faults self.new }
@@ -54,9 +56,12 @@ pub trait Disk {
     /// Writes a body between a head and a tail as one write, with no copy of it.
     fn write_framed(&mut self, at: u64, head: &[u8], body: &[u8], tail: &[u8]) -> Result<(), Failed>
         requires { IfSome (shown self.old) (λ s. at ≤ length s) }
-        ensures done { OnOk result (shown self.new ≡ written at (joined head.now body.now tail.now) (shown self.old)) }
-        ensures torn { ReadsBy (Torn at (length (joined head.now body.now tail.now))) (shown self.old) (shown self.new) }
-        ensures crash { Leads moment since images (Torn at (length (joined head.now body.now tail.now))) self.old self.new }
+        ensures done { OnOk result (shown self.new
+            ≡ written at (joined head.now body.now tail.now) (shown self.old)) }
+        ensures torn { ReadsBy (Torn at (length (joined head.now body.now tail.now)))
+            (shown self.old) (shown self.new) }
+        ensures crash { Leads moment since images
+            (Torn at (length (joined head.now body.now tail.now))) self.old self.new }
         ensures count { faults self.old ≤ faults self.new }
         ensures cause { OnErr result (Rose (faults self.old) (faults self.new)) };
 

@@ -84,7 +84,8 @@ fn left_of<'a>(
     tail: &'a [u8],
     written: usize,
 ) -> (&'a [u8], &'a [u8], &'a [u8])
-    ensures { joined result.0.now result.1.now result.2.now ≡ drop written (joined head.now body.now tail.now) }
+    ensures { joined result.0.now result.1.now result.2.now
+        ≡ drop written (joined head.now body.now tail.now) }
 {
     let behind_head = written.saturating_sub(head.len());
     let behind_body = behind_head.saturating_sub(body.len());

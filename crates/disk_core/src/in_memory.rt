@@ -26,7 +26,8 @@ impl Disk for MemDisk {
 
     ghost faults = { λ m. m.failed };
 
-    ghost reads = { λ m s e. subst (image_of m) (same_Some (reads_as m) s e) (image_reads m.base m.steps) };
+    ghost reads = { λ m s e. subst (image_of m) (same_Some (reads_as m) s e)
+        (image_reads m.base m.steps) };
 
     ghost tells = { λ m c here. (reads_as m, refl) };
 
@@ -39,7 +40,9 @@ impl Disk for MemDisk {
         ensures fails { IsErr result ↔ Fails self.old }
         ensures failed { OnErr result (self.new ≡ refused self.old) }
         ensures done { OnOk result (self.new ≡ passed self.old) }
-        ensures read { IfOk result (λ n. (n ≡ min (length into.old) (length (reads_as self.old) - at)) × (take n into.new ≡ take n (drop at (reads_as self.old)))) }
+        ensures read { IfOk result (λ n. (n ≡ min (length into.old)
+            (length (reads_as self.old) - at))
+            × (take n into.new ≡ take n (drop at (reads_as self.old)))) }
         ensures within { IfOk result (λ n. n ≤ length into.old) }
         ensures same { reads_as self.new ≡ reads_as self.old }
         ensures crash { Leads steps_done image_since image_of Same self.old self.new }
@@ -55,9 +58,11 @@ impl Disk for MemDisk {
         ensures fails { IsErr result ↔ (Fails self.old ⊎ (self.old.room < length bytes.now)) }
         ensures failed { OnErr result (self.new ≡ refused self.old) }
         ensures done { OnOk result (self.new ≡ noted_write at bytes.now self.old) }
-        ensures written { OnOk result (Some (reads_as self.new) ≡ written at bytes.now (Some (reads_as self.old))) }
+        ensures written { OnOk result (Some (reads_as self.new)
+            ≡ written at bytes.now (Some (reads_as self.old))) }
         ensures torn { Torn at (length bytes.now) (reads_as self.old) (reads_as self.new) }
-        ensures crash { Leads steps_done image_since image_of (Torn at (length bytes.now)) self.old self.new }
+        ensures crash { Leads steps_done image_since image_of (Torn at (length bytes.now)) self.old
+            self.new }
         ensures count { self.old.failed ≤ self.new.failed }
         ensures cause { OnErr result (Rose self.old.failed self.new.failed) }
     {
@@ -67,12 +72,17 @@ impl Disk for MemDisk {
     #[tactic(auto, using(crate::proofs::Remembered::write_done, crate::proofs::Remembered::write_torn, crate::proofs::Remembered::write_leads))]
     fn write_framed(&mut self, at: u64, head: &[u8], body: &[u8], tail: &[u8]) -> Result<(), Failed>
         requires { at ≤ length (reads_as self.old) }
-        ensures fails { IsErr result ↔ (Fails self.old ⊎ (self.old.room < length (joined head.now body.now tail.now))) }
+        ensures fails { IsErr result ↔ (Fails self.old
+            ⊎ (self.old.room < length (joined head.now body.now tail.now))) }
         ensures failed { OnErr result (self.new ≡ refused self.old) }
-        ensures done { OnOk result (self.new ≡ noted_write at (joined head.now body.now tail.now) self.old) }
-        ensures written { OnOk result (Some (reads_as self.new) ≡ written at (joined head.now body.now tail.now) (Some (reads_as self.old))) }
-        ensures torn { Torn at (length (joined head.now body.now tail.now)) (reads_as self.old) (reads_as self.new) }
-        ensures crash { Leads steps_done image_since image_of (Torn at (length (joined head.now body.now tail.now))) self.old self.new }
+        ensures done { OnOk result (self.new ≡ noted_write at (joined head.now body.now tail.now)
+            self.old) }
+        ensures written { OnOk result (Some (reads_as self.new)
+            ≡ written at (joined head.now body.now tail.now) (Some (reads_as self.old))) }
+        ensures torn { Torn at (length (joined head.now body.now tail.now)) (reads_as self.old)
+            (reads_as self.new) }
+        ensures crash { Leads steps_done image_since image_of
+            (Torn at (length (joined head.now body.now tail.now))) self.old self.new }
         ensures count { self.old.failed ≤ self.new.failed }
         ensures cause { OnErr result (Rose self.old.failed self.new.failed) }
     {
@@ -85,7 +95,8 @@ impl Disk for MemDisk {
         ensures fails { IsErr result ↔ Fails self.old }
         ensures failed { OnErr result (self.new ≡ refused self.old) }
         ensures done { OnOk result (self.new ≡ noted (shortened to) self.old) }
-        ensures shortened { OnOk result (Some (reads_as self.new) ≡ cut_to to (Some (reads_as self.old))) }
+        ensures shortened { OnOk result (Some (reads_as self.new)
+            ≡ cut_to to (Some (reads_as self.old))) }
         ensures torn { Cut to (reads_as self.old) (reads_as self.new) }
         ensures crash { Leads steps_done image_since image_of (Cut to) self.old self.new }
         ensures count { self.old.failed ≤ self.new.failed }
@@ -99,7 +110,8 @@ impl Disk for MemDisk {
         ensures fails { IsErr result ↔ Fails self.old }
         ensures failed { OnErr result (self.new ≡ refused self.old) }
         ensures done { OnOk result (self.new ≡ noted synced self.old) }
-        ensures stable { OnOk result ((c : List ℕ) → image_of self.new c → Some (reads_as self.old) ≡ Some c) }
+        ensures stable { OnOk result ((c : List ℕ) → image_of self.new c
+            → Some (reads_as self.old) ≡ Some c) }
         ensures same { reads_as self.new ≡ reads_as self.old }
         ensures crash { Leads steps_done image_since image_of Same self.old self.new }
         ensures count { self.old.failed ≤ self.new.failed }

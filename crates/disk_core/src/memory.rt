@@ -36,14 +36,24 @@ impl Model for MemDisk {
 
     ghost Value = { Memory };
 
-    ghost view = { λ m. record { base = m.base.items; steps = steps_of m.text.items m.log.items; made = m.made; failed = m.faults; calls = m.calls; room = m.room; failing = m.failing.items; stop = m.stop } };
+    ghost view = { λ m. record {
+      base = m.base.items;
+      steps = steps_of m.text.items m.log.items;
+      made = m.made;
+      failed = m.faults;
+      calls = m.calls;
+      room = m.room;
+      failing = m.failing.items;
+      stop = m.stop;
+    } };
 
     ghost invariant = { λ m. IsMemory m.bytes m.base m.log m.text m.calls m.room m.made };
 }
 
 // Counts a call, and says whether it is to fail.
 fn fails(made: &mut u64, calls: u64, failing: &[u64], stop: Option<u64>, faults: &mut u64) -> bool
-    ensures exact { IsTrue result ↔ (Contains failing.now made.old ⊎ ((calls ≤ made.old) ⊎ Stopped stop made.old)) }
+    ensures exact { IsTrue result ↔ (Contains failing.now made.old
+        ⊎ ((calls ≤ made.old) ⊎ Stopped stop made.old)) }
     ensures made { made.new ≡ counted made.old }
     ensures count { faults.new ≡ (if result then counted faults.old else faults.old) }
 {
@@ -82,7 +92,8 @@ pub(crate) fn put_over(bytes: &mut Vec<u8>, at: usize, new: &[u8])
 // The same with a body between a head and a tail.
 fn put_framed(bytes: &mut Vec<u8>, at: usize, head: &[u8], body: &[u8], tail: &[u8])
     requires within { at ≤ length bytes.old.items }
-    requires room { length bytes.old.items + length (joined head.now body.now tail.now) ≤ vec_capacity bytes.old }
+    requires room { length bytes.old.items + length (joined head.now body.now tail.now) ≤
+        vec_capacity bytes.old }
     ensures put { bytes.new.items ≡ over at (joined head.now body.now tail.now) bytes.old.items }
     ensures room { vec_capacity bytes.old ≤ vec_capacity bytes.new }
 {
@@ -125,10 +136,13 @@ fn log_write(
     tail: &[u8],
 )
     requires log { length log.old.items < vec_capacity log.old }
-    requires text { length text.old.items + length (joined head.now body.now tail.now) ≤ vec_capacity text.old }
-    ensures pushed { log.new.items ≡ log.old.items ++ Call.Write at (length text.old.items) (length (joined head.now body.now tail.now)) ∷ [] }
+    requires text { length text.old.items + length (joined head.now body.now tail.now) ≤
+        vec_capacity text.old }
+    ensures pushed { log.new.items ≡ log.old.items
+        ++ Call.Write at (length text.old.items) (length (joined head.now body.now tail.now)) ∷ [] }
     ensures text { text.new.items ≡ text.old.items ++ joined head.now body.now tail.now }
-    ensures room { (vec_capacity log.old ≤ vec_capacity log.new) × (vec_capacity text.old ≤ vec_capacity text.new) }
+    ensures room { (vec_capacity log.old ≤ vec_capacity log.new)
+        × (vec_capacity text.old ≤ vec_capacity text.new) }
 {
     let from = text.len();
     push_all(text, head);
@@ -146,7 +160,8 @@ fn log_write(
 
 // A copy with room for more.
 fn copy_with_room(alloc: Global, bytes: &[u8], room: u64) -> Mem<Vec<u8>>
-    ensures { IfOk result (λ v. (v.items ≡ bytes.now) × (length bytes.now + room ≤ vec_capacity v)) }
+    ensures { IfOk result (λ v. (v.items ≡ bytes.now)
+        × (length bytes.now + room ≤ vec_capacity v)) }
 {
     let Some(size) = bytes.len().checked_add(room as usize) else {
         return Err(OutOfMemory);
@@ -169,7 +184,16 @@ impl MemDisk {
         failing: Vec<u64>,
         stop: Option<u64>,
     ) -> Mem<MemDisk>
-        ensures { IfOk result (λ m. m ≡ record { base = bytes.items; steps = []; made = 0; failed = 0; calls = calls; room = room; failing = failing.items; stop = stop }) }
+        ensures { IfOk result (λ m. m ≡ record {
+          base = bytes.items;
+          steps = [];
+          made = 0;
+          failed = 0;
+          calls = calls;
+          room = room;
+          failing = failing.items;
+          stop = stop;
+        }) }
     {
         Ok(MemDisk {
             bytes: copy_with_room(alloc, &bytes, room)?,
@@ -217,7 +241,9 @@ impl MemDisk {
         ensures count { self.old.failed ≤ self.new.failed }
         ensures cause { OnErr result (Rose self.old.failed self.new.failed) }
         ensures done { OnOk result (self.new ≡ passed self.old) }
-        ensures read { IfOk result (λ n. (n ≡ min (length into.old) (length (reads_as self.old) - at)) × (take n into.new ≡ take n (drop at (reads_as self.old)))) }
+        ensures read { IfOk result (λ n. (n ≡ min (length into.old)
+            (length (reads_as self.old) - at))
+            × (take n into.new ≡ take n (drop at (reads_as self.old)))) }
     {
         self.turn()?;
         let bytes = self.held();
@@ -250,11 +276,13 @@ impl MemDisk {
         tail: &[u8],
     ) -> Result<(), Failed>
         requires { at ≤ length (reads_as self.old) }
-        ensures fails { IsErr result ↔ (Fails self.old ⊎ (self.old.room < length (joined head.now body.now tail.now))) }
+        ensures fails { IsErr result ↔ (Fails self.old
+            ⊎ (self.old.room < length (joined head.now body.now tail.now))) }
         ensures failed { OnErr result (self.new ≡ refused self.old) }
         ensures count { self.old.failed ≤ self.new.failed }
         ensures cause { OnErr result (Rose self.old.failed self.new.failed) }
-        ensures done { OnOk result (self.new ≡ noted_write at (joined head.now body.now tail.now) self.old) }
+        ensures done { OnOk result (self.new ≡ noted_write at (joined head.now body.now tail.now)
+            self.old) }
     {
         if fails(
             &mut self.made,

@@ -10,7 +10,16 @@ use wfs_ends::{Failed, Mem, Text};
 
 // A disk that holds `ab`, for ten calls and four bytes. Call 2 fails, and all from call 7 on.
 fn small_disk(alloc: Global) -> Mem<MemDisk>
-    ensures { IfOk result (λ m. m ≡ record { base = 97 ∷ 98 ∷ []; steps = []; made = 0; failed = 0; calls = 10; room = 4; failing = 2 ∷ []; stop = Some 7 }) }
+    ensures { IfOk result (λ m. m ≡ record {
+      base = 97 ∷ 98 ∷ [];
+      steps = [];
+      made = 0;
+      failed = 0;
+      calls = 10;
+      room = 4;
+      failing = 2 ∷ [];
+      stop = Some 7;
+    }) }
 {
     let mut bytes = Vec::new(alloc);
     bytes.extend_from_slice(b"ab")?;

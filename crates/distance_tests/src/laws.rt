@@ -11,7 +11,8 @@ pub fn distance_is_symmetric()
 
 /// What lies within a distance lies within each greater one.
 pub fn distance_is_monotone()
-    ensures { (a b : Geometry) (d e : ℕ) → d ≤ e → IsTrue (is_within_distance a b d) → IsTrue (is_within_distance a b e) }
+    ensures { (a b : Geometry) (d e : ℕ) → d ≤ e → IsTrue (is_within_distance a b d)
+        → IsTrue (is_within_distance a b e) }
 {}
 
 /// What lies within distance 0 is what intersects.

@@ -37,7 +37,8 @@ fn is_near_rings(a: Pos, b: Pos, area: &Polygon, d: u64) -> bool
 /// Whether the segment from `a` to `b` is near an edge of one of the holes.
 fn is_near_holes(a: Pos, b: Pos, holes: &[Ring], d: u64) -> bool
     requires { d ≤ 4_000_000_000 }
-    ensures { result ≡ list_any (λ hole. near_some d (record { from = a; to = b }) (edges hole)) holes.now }
+    ensures { result ≡ list_any (λ hole. near_some d (record { from = a; to = b }) (edges hole))
+        holes.now }
 {
     holes
         .iter()
@@ -106,7 +107,8 @@ fn are_rings_near(area: &Polygon, other: &Geometry, d: u64) -> bool
 /// Whether an edge of one of the holes is near a segment of the geometry.
 fn are_holes_near(holes: &[Ring], other: &Geometry, d: u64) -> bool
     requires { d ≤ 4_000_000_000 }
-    ensures { result ≡ list_any (λ hole. are_any_near d (edges hole) (segments_of other.now)) holes.now }
+    ensures { result ≡ list_any (λ hole. are_any_near d (edges hole) (segments_of other.now))
+        holes.now }
 {
     holes
         .iter()

@@ -15,7 +15,8 @@ ghost use Rattle.doc_laws.specs.RoundTrip.{ArePrefixes, Covers};
 /// with a space of allowed characters that is not empty (Namespaces in XML 1.0, section 3), and one stands for each
 /// space of the tree's names, that of `xml` too where a name has it. A name in no space needs none.
 pub fn round_trip()
-    ensures { (names : Prefixes) (e : Element) (bytes : List ℕ) → ArePrefixes names → Covers names e → Spells bytes e → Spells (document_text names e) e }
+    ensures { (names : Prefixes) (e : Element) (bytes : List ℕ) → ArePrefixes names → Covers names e
+        → Spells bytes e → Spells (document_text names e) e }
 {}
 
 /// A tree that some text spells has at most 32 levels and 100,000 elements, and the characters of its texts are such as a document

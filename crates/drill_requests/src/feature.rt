@@ -34,7 +34,8 @@ pub fn feature_of(alloc: Global, schema: &Schema, round: Round) -> Mem<Feature>
 
 // A feature of the round's type, with no number yet.
 fn feature_with(alloc: Global, round: Round, values: Vec<Value>) -> Mem<Feature>
-    ensures { IfOk result (λ feature. feature ≡ record { id = record { kind = round.kind; number = 0 }; values = values.items }) }
+    ensures { IfOk result (λ feature. feature ≡
+        record { id = record { kind = round.kind; number = 0 }; values = values.items }) }
 {
     let id = Rid {
         kind: round.kind,

@@ -20,5 +20,10 @@ impl Model for Round {
 
     ghost inverse = { λ r. record { number = r.number; kind = r.kind; x = r.x; y = r.y } };
 
-    ghost invariant = { λ r. IsDrawn (record { number = r.number; kind = r.kind; x = r.x; y = r.y }) };
+    ghost invariant = { λ r. IsDrawn (record {
+      number = r.number;
+      kind = r.kind;
+      x = r.x;
+      y = r.y;
+    }) };
 }

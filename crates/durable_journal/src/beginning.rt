@@ -40,14 +40,20 @@ fn shorten_long<D: Disk>(
     requires rules { KeepsRules features.now.schema }
     requires holds { Holds D.images features.now.schema features.now.kept journal.old }
     ensures holds { OnOk result (Holds D.images features.now.schema features.now.kept journal.new) }
-    ensures room { OnOk result (HasRoom D.images features.now.schema features.now.kept journal.old journal.new) }
-    ensures length { OnOk result (length_of journal.new ≡ length_before features.now.schema features.now.kept (length_of journal.old)) }
+    ensures room { OnOk result (HasRoom D.images features.now.schema features.now.kept journal.old
+        journal.new) }
+    ensures length { OnOk result (length_of journal.new
+        ≡ length_before features.now.schema features.now.kept (length_of journal.old)) }
     ensures limit { OnOk result (limit_of journal.new ≡ limit_of journal.old) }
-    ensures full { (sum : ℕ) → result ≡ Err (OpenFault.Full sum) → CannotOpen features.now.schema features.now.kept (limit_of journal.old) (length_of journal.old) (generation_in journal.old) sum }
+    ensures full { (sum : ℕ) → result ≡ Err (OpenFault.Full sum)
+        → CannotOpen features.now.schema features.now.kept (limit_of journal.old)
+        (length_of journal.old) (generation_in journal.old) sum }
     ensures later { IfErr result (λ fault. IsOfBytes fault → ⊥) }
-    ensures goes { Always D.moment D.since (SaysKept features.now.schema features.now.kept) (disks_of journal.old) (disks_of journal.new) }
+    ensures goes { Always D.moment D.since (SaysKept features.now.schema features.now.kept)
+        (disks_of journal.old) (disks_of journal.new) }
     ensures count { NoneFell D.faults (disks_of journal.old) (disks_of journal.new) }
-    ensures cause { result ≡ Err OpenFault.DiskFault → OneRose D.faults (disks_of journal.old) (disks_of journal.new) }
+    ensures cause { result ≡ Err OpenFault.DiskFault
+        → OneRose D.faults (disks_of journal.old) (disks_of journal.new) }
 {
     if journal.side_length() <= LONGEST_KEPT {
         return Ok(());
@@ -61,8 +67,10 @@ fn shorten_long<D: Disk>(
 // The body of the next opening's record.
 fn opening_body(alloc: Global, features: &Features) -> Mem<Vec<u8>>
     requires { features.now.kept.opening < last_opening }
-    ensures body { IfOk result (λ body. body.items ≡ body_in features.now.schema (next_opening features.now.kept)) }
-    ensures read_back { IfOk result (λ _. IsReadIn features.now.schema (next_opening features.now.kept)) }
+    ensures body { IfOk result (λ body. body.items
+        ≡ body_in features.now.schema (next_opening features.now.kept)) }
+    ensures read_back { IfOk result (λ _. IsReadIn features.now.schema
+        (next_opening features.now.kept)) }
 {
     let opening = Change::Opening(features.openings() + 1);
     let signature = signature(alloc, features.schema())?;
@@ -82,17 +90,26 @@ fn append_opening<D: Disk>(
 ) -> Result<(), OpenFault>
     requires below { features.now.kept.opening < last_opening }
     requires holds { Holds D.images features.now.schema features.now.kept journal.old }
-    ensures rests { OnOk result (IsAtRest D.images features.now.schema (played_one features.now.kept (next_opening features.now.kept)) journal.new) }
-    ensures appended { OnOk result ((bodies : List (List ℕ)) → Rests D.images bodies (seen journal.old) → Rests D.images (bodies ++ opening_in features.now.schema features.now.kept ∷ []) (seen journal.new)) }
+    ensures rests { OnOk result (IsAtRest D.images features.now.schema
+        (played_one features.now.kept (next_opening features.now.kept)) journal.new) }
+    ensures appended { OnOk result ((bodies : List (List ℕ))
+        → Rests D.images bodies (seen journal.old)
+        → Rests D.images (bodies ++ opening_in features.now.schema features.now.kept ∷ [])
+        (seen journal.new)) }
     ensures current { OnOk result (current_in journal.new ≡ current_in journal.old) }
-    ensures longer { OnOk result (length_of journal.new ≡ length_of journal.old + 5 + length (opening_in features.now.schema features.now.kept)) }
+    ensures longer { OnOk result (length_of journal.new
+        ≡ length_of journal.old + 5 + length (opening_in features.now.schema features.now.kept)) }
     ensures limit { OnOk result (limit_of journal.new ≡ limit_of journal.old) }
     ensures full { (sum : ℕ) → result ≡ Err (OpenFault.Full sum)
-        → (sum ≡ length_of journal.old + 5 + length (body_in features.now.schema (next_opening features.now.kept))) × (limit_of journal.old < sum) }
+        → (sum ≡ length_of journal.old + 5 + length
+        (body_in features.now.schema (next_opening features.now.kept)))
+        × (limit_of journal.old < sum) }
     ensures later { IfErr result (λ fault. IsOfBytes fault → ⊥) }
-    ensures goes { Always D.moment D.since (SaysOpened features.now.schema features.now.kept) (disks_of journal.old) (disks_of journal.new) }
+    ensures goes { Always D.moment D.since (SaysOpened features.now.schema features.now.kept)
+        (disks_of journal.old) (disks_of journal.new) }
     ensures count { NoneFell D.faults (disks_of journal.old) (disks_of journal.new) }
-    ensures cause { result ≡ Err OpenFault.DiskFault → OneRose D.faults (disks_of journal.old) (disks_of journal.new) }
+    ensures cause { result ≡ Err OpenFault.DiskFault
+        → OneRose D.faults (disks_of journal.old) (disks_of journal.new) }
 {
     match opening_body(alloc, features) {
         Err(_) => Err(OpenFault::OutOfMemory),
@@ -112,14 +129,20 @@ fn write_opening<D: Disk>(
     requires rules { KeepsRules features.now.schema }
     requires below { features.now.kept.opening < last_opening }
     requires holds { Holds D.images features.now.schema features.now.kept journal.old }
-    ensures rests { OnOk result (IsAtRest D.images features.now.schema (played_one features.now.kept (next_opening features.now.kept)) journal.new) }
-    ensures begun { OnOk result (IsBegunBy D.images features.now.schema features.now.kept journal.old journal.new) }
+    ensures rests { OnOk result (IsAtRest D.images features.now.schema
+        (played_one features.now.kept (next_opening features.now.kept)) journal.new) }
+    ensures begun { OnOk result (IsBegunBy D.images features.now.schema features.now.kept
+        journal.old journal.new) }
     ensures limit { OnOk result (limit_of journal.new ≡ limit_of journal.old) }
-    ensures full { (sum : ℕ) → result ≡ Err (OpenFault.Full sum) → CannotOpen features.now.schema features.now.kept (limit_of journal.old) (length_of journal.old) (generation_in journal.old) sum }
+    ensures full { (sum : ℕ) → result ≡ Err (OpenFault.Full sum)
+        → CannotOpen features.now.schema features.now.kept (limit_of journal.old)
+        (length_of journal.old) (generation_in journal.old) sum }
     ensures later { IfErr result (λ fault. IsOfBytes fault → ⊥) }
-    ensures goes { Always D.moment D.since (SaysOpened features.now.schema features.now.kept) (disks_of journal.old) (disks_of journal.new) }
+    ensures goes { Always D.moment D.since (SaysOpened features.now.schema features.now.kept)
+        (disks_of journal.old) (disks_of journal.new) }
     ensures count { NoneFell D.faults (disks_of journal.old) (disks_of journal.new) }
-    ensures cause { result ≡ Err OpenFault.DiskFault → OneRose D.faults (disks_of journal.old) (disks_of journal.new) }
+    ensures cause { result ≡ Err OpenFault.DiskFault
+        → OneRose D.faults (disks_of journal.old) (disks_of journal.new) }
 {
     match shorten_long(alloc, journal, features) {
         Err(fault) => Err(fault),
@@ -133,21 +156,33 @@ pub(crate) fn begin_opening<D: Disk>(
     recovered: Opened<D>,
 ) -> Result<Opened<D>, (Pair<D>, OpenFault)>
     requires rules { KeepsRules recovered.features.schema }
-    requires holds { Holds D.images recovered.features.schema recovered.features.kept recovered.journal }
+    requires holds { Holds D.images recovered.features.schema recovered.features.kept
+        recovered.journal }
     ensures below { IfOk result (λ _. recovered.features.kept.opening < last_opening) }
-    ensures kept { IfOk result (λ opened. opened.features.kept ≡ played_one recovered.features.kept (next_opening recovered.features.kept)) }
+    ensures kept { IfOk result (λ opened. opened.features.kept
+        ≡ played_one recovered.features.kept (next_opening recovered.features.kept)) }
     ensures schema { IfOk result (λ opened. opened.features.schema ≡ recovered.features.schema) }
     ensures bodies { IfOk result (λ opened. opened.bodies ≡ recovered.bodies) }
-    ensures rests { IfOk result (λ opened. IsAtRest D.images opened.features.schema opened.features.kept opened.journal) }
-    ensures begun { IfOk result (λ opened. IsBegunBy D.images recovered.features.schema recovered.features.kept recovered.journal opened.journal) }
+    ensures rests { IfOk result (λ opened. IsAtRest D.images opened.features.schema
+        opened.features.kept opened.journal) }
+    ensures begun { IfOk result (λ opened. IsBegunBy D.images recovered.features.schema
+        recovered.features.kept recovered.journal opened.journal) }
     ensures limit { IfOk result (λ opened. limit_of opened.journal ≡ limit_of recovered.journal) }
-    ensures full { (sum : ℕ) → IfErr result (λ e. e.1 ≡ OpenFault.Full sum → CannotOpen recovered.features.schema recovered.features.kept (limit_of recovered.journal) (length_of recovered.journal) (generation_in recovered.journal) sum) }
+    ensures full { (sum : ℕ) → IfErr result (λ e. e.1 ≡ OpenFault.Full sum
+        → CannotOpen recovered.features.schema recovered.features.kept (limit_of recovered.journal)
+        (length_of recovered.journal) (generation_in recovered.journal) sum) }
     ensures later { IfErr result (λ e. IsOfBytes e.1 → ⊥) }
-    ensures goes { IfOk result (λ opened. Always D.moment D.since (SaysOpened recovered.features.schema recovered.features.kept) (disks_of recovered.journal) (disks_of opened.journal)) }
-    ensures goes_err { IfErr result (λ e. Always D.moment D.since (SaysOpened recovered.features.schema recovered.features.kept) (disks_of recovered.journal) e.0) }
-    ensures count { IfOk result (λ opened. NoneFell D.faults (disks_of recovered.journal) (disks_of opened.journal)) }
+    ensures goes { IfOk result (λ opened. Always D.moment D.since
+        (SaysOpened recovered.features.schema recovered.features.kept) (disks_of recovered.journal)
+        (disks_of opened.journal)) }
+    ensures goes_err { IfErr result (λ e. Always D.moment D.since
+        (SaysOpened recovered.features.schema recovered.features.kept) (disks_of recovered.journal)
+        e.0) }
+    ensures count { IfOk result (λ opened. NoneFell D.faults (disks_of recovered.journal)
+        (disks_of opened.journal)) }
     ensures count_err { IfErr result (λ e. NoneFell D.faults (disks_of recovered.journal) e.0) }
-    ensures cause { IfErr result (λ e. e.1 ≡ OpenFault.DiskFault → OneRose D.faults (disks_of recovered.journal) e.0) }
+    ensures cause { IfErr result (λ e. e.1 ≡ OpenFault.DiskFault
+        → OneRose D.faults (disks_of recovered.journal) e.0) }
 {
     let Opened {
         journal,

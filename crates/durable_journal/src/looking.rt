@@ -50,9 +50,12 @@ fn look_with<D: Disk>(
     replay: &mut Rebuild,
 ) -> Result<Counts, OpenFault>
     requires { limit ≤ greatest_side }
-    ensures counts { IfOk result (λ counts. (a b : List ℕ) → D.shown disks.old.a ≡ Some a → D.shown disks.old.b ≡ Some b
-        → AreCountsOf replay.old.schema (outcome_of (verdict_on replay.old.schema) limit a b) counts) }
-    ensures refused { IfErr result (λ fault. (a b : List ℕ) → D.shown disks.old.a ≡ Some a → D.shown disks.old.b ≡ Some b
+    ensures counts { IfOk result (λ counts. (a b : List ℕ) → D.shown disks.old.a ≡ Some a
+        → D.shown disks.old.b ≡ Some b
+        → AreCountsOf replay.old.schema (outcome_of (verdict_on replay.old.schema) limit a b)
+        counts) }
+    ensures refused { IfErr result (λ fault. (a b : List ℕ) → D.shown disks.old.a ≡ Some a
+        → D.shown disks.old.b ≡ Some b
         → IsRefusedBy (outcome_of (verdict_on replay.old.schema) limit a b) fault) }
     ensures unwritten { Untouched D.shown D.moment D.since D.images disks.old disks.new }
     ensures count { NoneFell D.faults disks.old disks.new }
@@ -78,9 +81,11 @@ pub fn look_at_journal<D: Disk>(
     limit: u64,
 ) -> Result<Counts, OpenFault>
     requires { limit ≤ greatest_side }
-    ensures counts { IfOk result (λ counts. (a b : List ℕ) → D.shown disks.old.a ≡ Some a → D.shown disks.old.b ≡ Some b
+    ensures counts { IfOk result (λ counts. (a b : List ℕ) → D.shown disks.old.a ≡ Some a
+        → D.shown disks.old.b ≡ Some b
         → AreCountsOf schema.now (outcome_of (verdict_on schema.now) limit a b) counts) }
-    ensures refused { IfErr result (λ fault. (a b : List ℕ) → D.shown disks.old.a ≡ Some a → D.shown disks.old.b ≡ Some b
+    ensures refused { IfErr result (λ fault. (a b : List ℕ) → D.shown disks.old.a ≡ Some a
+        → D.shown disks.old.b ≡ Some b
         → IsRefusedBy (outcome_of (verdict_on schema.now) limit a b) fault) }
     ensures unwritten { Untouched D.shown D.moment D.since D.images disks.old disks.new }
     ensures count { NoneFell D.faults disks.old disks.new }

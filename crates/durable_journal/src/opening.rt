@@ -51,13 +51,27 @@ fn recover_with<D: Disk>(
     ensures holds { IfOk result (λ o. Holds D.images schema.now o.features.kept o.journal) }
     ensures rests { IfOk result (λ o. Rests D.images o.bodies (seen o.journal)) }
     ensures limit { IfOk result (λ o. limit_of o.journal ≡ limit) }
-    ensures told { IfOk result (λ o. (a b : List ℕ) → D.shown disks.a ≡ Some a → D.shown disks.b ≡ Some b → Answered o.journal (outcome_of (verdict_on schema.now) limit a b) limit o.bodies) }
-    ensures refused { IfErr result (λ e. (a b : List ℕ) → D.shown disks.a ≡ Some a → D.shown disks.b ≡ Some b → IsRefusal schema.now limit (outcome_of (verdict_on schema.now) limit a b) e.1) }
-    ensures unwritten { IfErr result (λ e. IsOfBytes e.1 → Untouched D.shown D.moment D.since D.images disks e.0) }
-    ensures goes { IfOk result (λ o. (a b : List ℕ) (lists : List (List (List ℕ))) → D.shown disks.a ≡ Some a → D.shown disks.b ≡ Some b → (s : Says lists a b) → OnceSynced D.shown D.moment D.since D.images (WithTail lists s) disks (disks_of o.journal)) }
-    ensures goes_err { IfErr result (λ e. (a b : List ℕ) (lists : List (List (List ℕ))) → D.shown disks.a ≡ Some a → D.shown disks.b ≡ Some b → (s : Says lists a b) → AfterSync D.shown D.moment D.since D.images (WithTail lists s) disks e.0) }
-    ensures nothing { IfOk result (λ o. (a b : List ℕ) → D.shown disks.a ≡ Some a → D.shown disks.b ≡ Some b → Unmade a → Unmade b → OnceSynced D.shown D.moment D.since D.images Nothing disks (disks_of o.journal)) }
-    ensures nothing_err { IfErr result (λ e. (a b : List ℕ) → D.shown disks.a ≡ Some a → D.shown disks.b ≡ Some b → Unmade a → Unmade b → AfterSync D.shown D.moment D.since D.images Nothing disks e.0) }
+    ensures told { IfOk result (λ o. (a b : List ℕ) → D.shown disks.a ≡ Some a
+        → D.shown disks.b ≡ Some b → Answered o.journal
+        (outcome_of (verdict_on schema.now) limit a b) limit o.bodies) }
+    ensures refused { IfErr result (λ e. (a b : List ℕ) → D.shown disks.a ≡ Some a
+        → D.shown disks.b ≡ Some b → IsRefusal schema.now limit
+        (outcome_of (verdict_on schema.now) limit a b) e.1) }
+    ensures unwritten { IfErr result (λ e. IsOfBytes e.1
+        → Untouched D.shown D.moment D.since D.images disks e.0) }
+    ensures goes { IfOk result (λ o. (a b : List ℕ) (lists : List (List (List ℕ)))
+        → D.shown disks.a ≡ Some a → D.shown disks.b ≡ Some b → (s : Says lists a b)
+        → OnceSynced D.shown D.moment D.since D.images (WithTail lists s) disks
+        (disks_of o.journal)) }
+    ensures goes_err { IfErr result (λ e. (a b : List ℕ) (lists : List (List (List ℕ)))
+        → D.shown disks.a ≡ Some a → D.shown disks.b ≡ Some b → (s : Says lists a b)
+        → AfterSync D.shown D.moment D.since D.images (WithTail lists s) disks e.0) }
+    ensures nothing { IfOk result (λ o. (a b : List ℕ) → D.shown disks.a ≡ Some a
+        → D.shown disks.b ≡ Some b → Unmade a → Unmade b
+        → OnceSynced D.shown D.moment D.since D.images Nothing disks (disks_of o.journal)) }
+    ensures nothing_err { IfErr result (λ e. (a b : List ℕ) → D.shown disks.a ≡ Some a
+        → D.shown disks.b ≡ Some b → Unmade a → Unmade b
+        → AfterSync D.shown D.moment D.since D.images Nothing disks e.0) }
     ensures count { IfOk result (λ o. NoneFell D.faults disks (disks_of o.journal)) }
     ensures count_err { IfErr result (λ e. NoneFell D.faults disks e.0) }
     ensures cause { IfErr result (λ e. e.1 ≡ OpenFault.DiskFault → OneRose D.faults disks e.0) }
@@ -108,19 +122,39 @@ pub fn open_journal<D: Disk>(
     requires rules { KeepsRules schema.now }
     requires limit { limit ≤ greatest_side }
     ensures opened { IfOk result (λ o. IsOpened D.images schema.now limit o) }
-    ensures told { IfOk result (λ o. (a b : List ℕ) → D.shown disks.a ≡ Some a → D.shown disks.b ≡ Some b → AreBodiesOf (outcome_of (verdict_on schema.now) limit a b) o.bodies) }
-    ensures side { IfOk result (λ o. (a b : List ℕ) → D.shown disks.a ≡ Some a → D.shown disks.b ≡ Some b
-        → IsOpenedSide D.images schema.now (outcome_of (verdict_on schema.now) limit a b) (current_in o.journal) (length_of o.journal) (disks_of o.journal)) }
-    ensures refused { IfErr result (λ e. (a b : List ℕ) → D.shown disks.a ≡ Some a → D.shown disks.b ≡ Some b → IsRefusal schema.now limit (outcome_of (verdict_on schema.now) limit a b) e.1) }
-    ensures unwritten { IfErr result (λ e. IsOfBytes e.1 → Untouched D.shown D.moment D.since D.images disks e.0) }
-    ensures goes { IfOk result (λ o. (a b : List ℕ) (lists : List (List (List ℕ))) (kept : Durable) → D.shown disks.a ≡ Some a → D.shown disks.b ≡ Some b → (s : Says lists a b) → All (ComeTo schema.now kept) lists
-        → AfterSync D.shown D.moment D.since D.images (λ x y. WithTail lists s x y ⊎ SaysOpened schema.now kept x y) disks (disks_of o.journal)) }
-    ensures goes_err { IfErr result (λ e. (a b : List ℕ) (lists : List (List (List ℕ))) (kept : Durable) → D.shown disks.a ≡ Some a → D.shown disks.b ≡ Some b → (s : Says lists a b) → All (ComeTo schema.now kept) lists
-        → AfterSync D.shown D.moment D.since D.images (λ x y. WithTail lists s x y ⊎ SaysOpened schema.now kept x y) disks e.0) }
-    ensures first { IfOk result (λ o. (a b : List ℕ) → D.shown disks.a ≡ Some a → D.shown disks.b ≡ Some b → Unmade a → Unmade b
-        → AfterSync D.shown D.moment D.since D.images (λ x y. Nothing x y ⊎ SaysOpened schema.now (nothing (length schema.now.types)) x y) disks (disks_of o.journal)) }
-    ensures first_err { IfErr result (λ e. (a b : List ℕ) → D.shown disks.a ≡ Some a → D.shown disks.b ≡ Some b → Unmade a → Unmade b
-        → AfterSync D.shown D.moment D.since D.images (λ x y. Nothing x y ⊎ SaysOpened schema.now (nothing (length schema.now.types)) x y) disks e.0) }
+    ensures told { IfOk result (λ o. (a b : List ℕ) → D.shown disks.a ≡ Some a
+        → D.shown disks.b ≡ Some b → AreBodiesOf (outcome_of (verdict_on schema.now) limit a b)
+        o.bodies) }
+    ensures side { IfOk result (λ o. (a b : List ℕ) → D.shown disks.a ≡ Some a
+        → D.shown disks.b ≡ Some b
+        → IsOpenedSide D.images schema.now (outcome_of (verdict_on schema.now) limit a b)
+        (current_in o.journal) (length_of o.journal) (disks_of o.journal)) }
+    ensures refused { IfErr result (λ e. (a b : List ℕ) → D.shown disks.a ≡ Some a
+        → D.shown disks.b ≡ Some b → IsRefusal schema.now limit
+        (outcome_of (verdict_on schema.now) limit a b) e.1) }
+    ensures unwritten { IfErr result (λ e. IsOfBytes e.1
+        → Untouched D.shown D.moment D.since D.images disks e.0) }
+    ensures goes { IfOk result (λ o. (a b : List ℕ) (lists : List (List (List ℕ))) (kept : Durable)
+        → D.shown disks.a ≡ Some a → D.shown disks.b ≡ Some b → (s : Says lists a b)
+        → All (ComeTo schema.now kept) lists
+        → AfterSync D.shown D.moment D.since D.images
+        (λ x y. WithTail lists s x y ⊎ SaysOpened schema.now kept x y) disks
+        (disks_of o.journal)) }
+    ensures goes_err { IfErr result (λ e. (a b : List ℕ) (lists : List (List (List ℕ)))
+        (kept : Durable) → D.shown disks.a ≡ Some a → D.shown disks.b ≡ Some b
+        → (s : Says lists a b) → All (ComeTo schema.now kept) lists
+        → AfterSync D.shown D.moment D.since D.images
+        (λ x y. WithTail lists s x y ⊎ SaysOpened schema.now kept x y) disks e.0) }
+    ensures first { IfOk result (λ o. (a b : List ℕ) → D.shown disks.a ≡ Some a
+        → D.shown disks.b ≡ Some b → Unmade a → Unmade b
+        → AfterSync D.shown D.moment D.since D.images
+        (λ x y. Nothing x y ⊎ SaysOpened schema.now (nothing (length schema.now.types)) x y)
+        disks (disks_of o.journal)) }
+    ensures first_err { IfErr result (λ e. (a b : List ℕ) → D.shown disks.a ≡ Some a
+        → D.shown disks.b ≡ Some b → Unmade a → Unmade b
+        → AfterSync D.shown D.moment D.since D.images
+        (λ x y. Nothing x y ⊎ SaysOpened schema.now (nothing (length schema.now.types)) x y)
+        disks e.0) }
     ensures count { IfOk result (λ o. NoneFell D.faults disks (disks_of o.journal)) }
     ensures count_err { IfErr result (λ e. NoneFell D.faults disks e.0) }
     ensures cause { IfErr result (λ e. e.1 ≡ OpenFault.DiskFault → OneRose D.faults disks e.0) }

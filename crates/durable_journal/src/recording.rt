@@ -34,19 +34,22 @@ pub enum Recorded {
 /// At each moment a crash leaves what was kept, with what was begun or without, or with this change. Each fault comes
 /// only where a disk's count of failures rose.
 pub fn record_change<D: Disk>(journal: &mut Journal<D>, body: &[u8]) -> Recorded
-    requires keeps { (schema : Schema) × (kept : Durable) × (begun : Option Change) × Keeps D.images schema kept begun journal.old }
+    requires keeps { (schema : Schema) × (kept : Durable) × (begun : Option Change)
+        × Keeps D.images schema kept begun journal.old }
     requires fits { length_of journal.old + 5 + length body.now ≤ limit_of journal.old }
     ensures keeps { (schema : Schema) (kept : Durable) (begun : Option Change) (change : Change)
         → Keeps D.images schema kept begun journal.old → MayAppend schema kept change body.now
         → IsRecorded D.images schema kept begun change result journal.new }
     ensures goes { (schema : Schema) (kept : Durable) (begun : Option Change) (change : Change)
         → Keeps D.images schema kept begun journal.old → MayAppend schema kept change body.now
-        → Always D.moment D.since (SaysEither schema kept begun (Some change)) (disks_of journal.old) (disks_of journal.new) }
+        → Always D.moment D.since (SaysEither schema kept begun (Some change))
+        (disks_of journal.old) (disks_of journal.new) }
     ensures longer { length_of journal.new ≡ length_of journal.old + longer_by result body.now }
     ensures limit { limit_of journal.new ≡ limit_of journal.old }
     ensures current { current_in journal.new ≡ current_in journal.old }
     ensures count { NoneFell D.faults (disks_of journal.old) (disks_of journal.new) }
-    ensures cause { (result ≡ Recorded.Done) ⊎ OneRose D.faults (disks_of journal.old) (disks_of journal.new) }
+    ensures cause { (result ≡ Recorded.Done) ⊎ OneRose D.faults (disks_of journal.old)
+        (disks_of journal.new) }
 {
     match journal.repair() {
         Err(_) => Recorded::FaultHeld,

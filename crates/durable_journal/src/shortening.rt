@@ -28,16 +28,27 @@ pub(crate) fn make_checkpoint<D: Disk>(
 ) -> Result<(), CompactFault>
     requires rules { KeepsRules features.now.schema }
     requires holds { Holds D.images features.now.schema features.now.kept journal.old }
-    ensures rests { OnOk result (Rests D.images (checkpoint_bodies features.now.schema features.now.kept) (seen journal.new)) }
-    ensures keeps { OnOk result (Keeps D.images features.now.schema features.now.kept None journal.new) }
-    ensures fault { OnErr result (IsAtRest D.images features.now.schema features.now.kept journal.old → Keeps D.images features.now.schema features.now.kept None journal.new) }
-    ensures goes { Always D.moment D.since (SaysKept features.now.schema features.now.kept) (disks_of journal.old) (disks_of journal.new) }
-    ensures turned { OnOk result ((is_second journal.new ≡ not (is_second journal.old)) × (generation_in journal.new ≡ generation_in journal.old + 1) × (length_of journal.new ≡ side_length (checkpoint_bodies features.now.schema features.now.kept)) × (limit_of journal.new ≡ limit_of journal.old)) }
+    ensures rests { OnOk result (Rests D.images
+        (checkpoint_bodies features.now.schema features.now.kept) (seen journal.new)) }
+    ensures keeps { OnOk result (Keeps D.images features.now.schema features.now.kept None
+        journal.new) }
+    ensures fault { OnErr result (IsAtRest D.images features.now.schema features.now.kept
+        journal.old → Keeps D.images features.now.schema features.now.kept None journal.new) }
+    ensures goes { Always D.moment D.since (SaysKept features.now.schema features.now.kept)
+        (disks_of journal.old) (disks_of journal.new) }
+    ensures turned { OnOk result ((is_second journal.new ≡ not (is_second journal.old))
+        × (generation_in journal.new ≡ generation_in journal.old + 1)
+        × (length_of journal.new ≡ side_length
+        (checkpoint_bodies features.now.schema features.now.kept))
+        × (limit_of journal.new ≡ limit_of journal.old)) }
     ensures same { OnErr result (SameSide journal.old journal.new) }
     ensures full { (sum : ℕ) → result ≡ Err (CompactFault.Full sum)
-        → ((generation_in journal.old ≡ last_count) × (sum ≡ last_count)) ⊎ Passes (limit_of journal.old) sum (checkpoint_bodies features.now.schema features.now.kept) }
+        → ((generation_in journal.old ≡ last_count) × (sum ≡ last_count))
+        ⊎ Passes (limit_of journal.old) sum
+        (checkpoint_bodies features.now.schema features.now.kept) }
     ensures count { NoneFell D.faults (disks_of journal.old) (disks_of journal.new) }
-    ensures cause { IsErrOf result CompactFault.DiskFault → OneRose D.faults (disks_of journal.old) (disks_of journal.new) }
+    ensures cause { IsErrOf result CompactFault.DiskFault
+        → OneRose D.faults (disks_of journal.old) (disks_of journal.new) }
 {
     match CheckpointSource::new(alloc, features) {
         Err(_) => Err(CompactFault::OutOfMemory),
@@ -65,20 +76,36 @@ pub fn shorten<D: Disk>(
     features: &Features,
 ) -> Result<(), CompactFault>
     requires rules { KeepsRules features.now.schema }
-    requires keeps { (begun : Option Change) × Keeps D.images features.now.schema features.now.kept begun journal.old }
-    ensures rests { OnOk result (Rests D.images (checkpoint_bodies features.now.schema features.now.kept) (seen journal.new)) }
-    ensures holds { OnOk result (HoldsCheckpoint D.images (current_in journal.new) features.now.schema features.now.kept (disks_of journal.new)) }
-    ensures keeps { OnOk result (Keeps D.images features.now.schema features.now.kept None journal.new) }
-    ensures fault { OnErr result ((begun : Option Change) → Keeps D.images features.now.schema features.now.kept begun journal.old
-        → Keeps D.images features.now.schema features.now.kept None journal.new ⊎ ((result ≡ Err CompactFault.DiskFault) × Keeps D.images features.now.schema features.now.kept begun journal.new)) }
-    ensures goes { (begun : Option Change) → Keeps D.images features.now.schema features.now.kept begun journal.old
-        → Always D.moment D.since (SaysWith features.now.schema features.now.kept begun) (disks_of journal.old) (disks_of journal.new) }
-    ensures turned { OnOk result ((is_second journal.new ≡ not (is_second journal.old)) × (generation_in journal.new ≡ generation_in journal.old + 1) × (length_of journal.new ≡ side_length (checkpoint_bodies features.now.schema features.now.kept)) × (limit_of journal.new ≡ limit_of journal.old)) }
+    requires keeps { (begun : Option Change) × Keeps D.images features.now.schema features.now.kept
+        begun journal.old }
+    ensures rests { OnOk result (Rests D.images
+        (checkpoint_bodies features.now.schema features.now.kept) (seen journal.new)) }
+    ensures holds { OnOk result (HoldsCheckpoint D.images (current_in journal.new)
+        features.now.schema features.now.kept (disks_of journal.new)) }
+    ensures keeps { OnOk result (Keeps D.images features.now.schema features.now.kept None
+        journal.new) }
+    ensures fault { OnErr result ((begun : Option Change)
+        → Keeps D.images features.now.schema features.now.kept begun journal.old
+        → Keeps D.images features.now.schema features.now.kept None journal.new
+        ⊎ ((result ≡ Err CompactFault.DiskFault)
+        × Keeps D.images features.now.schema features.now.kept begun journal.new)) }
+    ensures goes { (begun : Option Change) → Keeps D.images features.now.schema features.now.kept
+        begun journal.old
+        → Always D.moment D.since (SaysWith features.now.schema features.now.kept begun)
+        (disks_of journal.old) (disks_of journal.new) }
+    ensures turned { OnOk result ((is_second journal.new ≡ not (is_second journal.old))
+        × (generation_in journal.new ≡ generation_in journal.old + 1)
+        × (length_of journal.new ≡ side_length
+        (checkpoint_bodies features.now.schema features.now.kept))
+        × (limit_of journal.new ≡ limit_of journal.old)) }
     ensures same { OnErr result (SameSide journal.old journal.new) }
     ensures full { (sum : ℕ) → result ≡ Err (CompactFault.Full sum)
-        → ((generation_in journal.old ≡ last_count) × (sum ≡ last_count)) ⊎ Passes (limit_of journal.old) sum (checkpoint_bodies features.now.schema features.now.kept) }
+        → ((generation_in journal.old ≡ last_count) × (sum ≡ last_count))
+        ⊎ Passes (limit_of journal.old) sum
+        (checkpoint_bodies features.now.schema features.now.kept) }
     ensures count { NoneFell D.faults (disks_of journal.old) (disks_of journal.new) }
-    ensures cause { IsErrOf result CompactFault.DiskFault → OneRose D.faults (disks_of journal.old) (disks_of journal.new) }
+    ensures cause { IsErrOf result CompactFault.DiskFault
+        → OneRose D.faults (disks_of journal.old) (disks_of journal.new) }
 {
     match journal.repair() {
         Err(_) => Err(CompactFault::DiskFault),

@@ -169,7 +169,8 @@ fn each_call_may_fail(rt: HostRuntime) -> Result<(), Fail> {
 // ---- changes
 
 fn add<D: Disk>(journal: &mut Journal<D>, limit: u64) -> Option<Recorded>
-    requires keeps { (schema : Schema) × (kept : Durable) × (begun : Option Change) × Keeps D.images schema kept begun journal.old }
+    requires keeps { (schema : Schema) × (kept : Durable) × (begun : Option Change)
+        × Keeps D.images schema kept begun journal.old }
     requires limit { limit_of journal.old ≡ limit }
 {
     if journal.side_length().saturating_add(31) > limit {

@@ -1,4 +1,5 @@
-// A side in the making, record by record, behind a closed byte 0.
+//! A side in the making, record by record, behind a closed byte 0.
+
 ghost use Rattle.std.specs.Prelude.{◌≡◌, ◌⊎◌, ◌≤◌, ◌<◌, ◌+◌, ◌-◌, ◌^◌, ◌++◌, ◌∷◌, [], ℕ, Bool, List, length, OnOk, OnErr, IfSome, not};
 ghost use Rattle.wfs_ends.specs.Ends.{Rose};
 ghost use Rattle.disk_core.specs.Disk.{Leads, Goes, Every, Keeps, Begins};
@@ -13,7 +14,8 @@ use wfs_ends::Failed;
 // Writes mark, version and generation behind a closed byte 0.
 #[tactic(auto, unfolding(disk_core::specs::Disk::written, disk_core::specs::Disk::over))]
 fn head_on<D: Disk>(disk: &mut D, generation: u64) -> Result<(), Failed>
-    requires { Every (D.images disk.old) (Begins (0 ∷ [])) × IfSome (D.shown disk.old) (λ s. s ≡ 0 ∷ []) }
+    requires { Every (D.images disk.old) (Begins (0 ∷ []))
+        × IfSome (D.shown disk.old) (λ s. s ≡ 0 ∷ []) }
     ensures kept { Leads D.moment D.since D.images (Keeps 1) disk.old disk.new }
     ensures begun { OnOk result (Making D.shown D.images generation 16 [] disk.new) }
     ensures count { D.faults disk.old ≤ D.faults disk.new }
@@ -29,8 +31,10 @@ fn head_on<D: Disk>(disk: &mut D, generation: u64) -> Result<(), Failed>
 
 // Begins a side of this generation.
 pub(crate) fn begin_on<D: Disk>(disk: &mut D, generation: u64) -> Result<(), Failed>
-    ensures goes { (is_b : Bool) (current : ℕ) → Idle is_b current (D.images disk.old) → Goes D.moment D.since (Harmless is_b current []) disk.old disk.new }
-    ensures still { (is_b : Bool) (current : ℕ) → Idle is_b current (D.images disk.old) → Idle is_b current (D.images disk.new) }
+    ensures goes { (is_b : Bool) (current : ℕ) → Idle is_b current (D.images disk.old)
+        → Goes D.moment D.since (Harmless is_b current []) disk.old disk.new }
+    ensures still { (is_b : Bool) (current : ℕ) → Idle is_b current (D.images disk.old)
+        → Idle is_b current (D.images disk.new) }
     ensures begun { OnOk result (Making D.shown D.images generation 16 [] disk.new) }
     ensures count { D.faults disk.old ≤ D.faults disk.new }
     ensures cause { OnErr result (Rose (D.faults disk.old) (D.faults disk.new)) }
@@ -43,9 +47,13 @@ pub(crate) fn begin_on<D: Disk>(disk: &mut D, generation: u64) -> Result<(), Fai
 #[tactic(auto, unfolding(disk_core::specs::Disk::written, disk_core::specs::Disk::over))]
 pub(crate) fn add_on<D: Disk>(disk: &mut D, place: u64, body: &[u8]) -> Result<(), Failed>
     requires fits { (length body.now < 2 ^ 32) × (place + 6 + length body.now < 2 ^ 64) }
-    requires making { (generation : ℕ) × (added : List (List ℕ)) × Making D.shown D.images generation place added disk.old }
+    requires making { (generation : ℕ) × (added : List (List ℕ))
+        × Making D.shown D.images generation place added disk.old }
     ensures kept { Leads D.moment D.since D.images (Keeps 1) disk.old disk.new }
-    ensures added { OnOk result ((generation : ℕ) (added : List (List ℕ)) → Making D.shown D.images generation place added disk.old → Making D.shown D.images generation (place + 5 + length body.now) (added ++ body.now ∷ []) disk.new) }
+    ensures added { OnOk result ((generation : ℕ) (added : List (List ℕ))
+        → Making D.shown D.images generation place added disk.old
+        → Making D.shown D.images generation (place + 5 + length body.now) (added ++ body.now ∷ [])
+        disk.new) }
     ensures count { D.faults disk.old ≤ D.faults disk.new }
     ensures cause { OnErr result (Rose (D.faults disk.old) (D.faults disk.new)) }
 {
@@ -55,9 +63,12 @@ pub(crate) fn add_on<D: Disk>(disk: &mut D, place: u64, body: &[u8]) -> Result<(
 
 // Ends the records with a closed gate, and makes them stable.
 pub(crate) fn close_on<D: Disk>(disk: &mut D, place: u64) -> Result<(), Failed>
-    requires making { (generation : ℕ) × (added : List (List ℕ)) × Making D.shown D.images generation place added disk.old }
+    requires making { (generation : ℕ) × (added : List (List ℕ))
+        × Making D.shown D.images generation place added disk.old }
     ensures kept { Leads D.moment D.since D.images (Keeps 1) disk.old disk.new }
-    ensures closed { OnOk result ((generation : ℕ) (added : List (List ℕ)) → Making D.shown D.images generation place added disk.old → Every (D.images disk.new) (Gate [] (inner generation added ++ 0 ∷ []))) }
+    ensures closed { OnOk result ((generation : ℕ) (added : List (List ℕ))
+        → Making D.shown D.images generation place added disk.old
+        → Every (D.images disk.new) (Gate [] (inner generation added ++ 0 ∷ []))) }
     ensures count { D.faults disk.old ≤ D.faults disk.new }
     ensures cause { OnErr result (Rose (D.faults disk.old) (D.faults disk.new)) }
 {

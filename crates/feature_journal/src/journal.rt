@@ -46,10 +46,14 @@ impl<D: Disk> Journal<D> {
     ) -> Journal<D>
         requires within { gate + 1 ≤ side }
         requires limit { side ≤ greatest_side }
-        requires held { (bodies : List (List ℕ)) × HeldClosed D.images second_side generation gate bodies disks }
+        requires held { (bodies : List (List ℕ))
+            × HeldClosed D.images second_side generation gate bodies disks }
         ensures disks { disks_of result ≡ disks }
-        ensures told { (is_second result ≡ second_side) × (generation_in result ≡ generation) × (length_of result ≡ gate + 1) × (limit_of result ≡ side) }
-        ensures rests { (bodies : List (List ℕ)) → HeldClosed D.images second_side generation gate bodies disks → Rests D.images bodies (seen result) }
+        ensures told { (is_second result ≡ second_side) × (generation_in result ≡ generation)
+            × (length_of result ≡ gate + 1) × (limit_of result ≡ side) }
+        ensures rests { (bodies : List (List ℕ))
+            → HeldClosed D.images second_side generation gate bodies disks
+            → Rests D.images bodies (seen result) }
     {
         Journal {
             disks,
@@ -70,7 +74,8 @@ impl<D: Disk> Journal<D> {
         ensures goes { IfOk result (λ j. Within D.moment D.since Nothing disks (disks_of j)) }
         ensures goes_err { IfErr result (λ e. Within D.moment D.since Nothing disks e.0) }
         ensures rests { IfOk result (λ j. Rests D.images [] (seen j)) }
-        ensures told { IfOk result (λ j. (is_second j ≡ false) × (generation_in j ≡ 1) × (length_of j ≡ 17) × (limit_of j ≡ side)) }
+        ensures told { IfOk result (λ j. (is_second j ≡ false) × (generation_in j ≡ 1)
+            × (length_of j ≡ 17) × (limit_of j ≡ side)) }
         ensures other { IfOk result (λ j. (disks_of j).b ≡ disks.b) }
         ensures other_err { IfErr result (λ e. e.0.b ≡ disks.b) }
         ensures count { IfOk result (λ j. D.faults disks.a ≤ D.faults (disks_of j).a) }
@@ -99,15 +104,28 @@ impl<D: Disk> Journal<D> {
     /// the limit, and before anything is written.
     pub fn append(&mut self, body: &[u8]) -> Result<(), AppendFault>
         requires { (bodies : List (List ℕ)) × Rests D.images bodies (seen self.old) }
-        ensures goes { (bodies : List (List ℕ)) → Rests D.images bodies (seen self.old) → Within D.moment D.since (With bodies body.now) (disks_of self.old) (disks_of self.new) }
-        ensures done { OnOk result ((bodies : List (List ℕ)) → Rests D.images bodies (seen self.old) → Rests D.images (bodies ++ body.now ∷ []) (seen self.new)) }
-        ensures longer { OnOk result ((is_second self.new ≡ is_second self.old) × (generation_in self.new ≡ generation_in self.old) × (length_of self.new ≡ length_of self.old + 5 + length body.now) × (limit_of self.new ≡ limit_of self.old)) }
-        ensures fault { IsErrOf result AppendFault.DiskFault → (bodies : List (List ℕ)) → Rests D.images bodies (seen self.old) → Rests D.images bodies (seen self.new) ⊎ Began D.images bodies body.now (seen self.new) }
+        ensures goes { (bodies : List (List ℕ)) → Rests D.images bodies (seen self.old)
+            → Within D.moment D.since (With bodies body.now) (disks_of self.old)
+            (disks_of self.new) }
+        ensures done { OnOk result ((bodies : List (List ℕ)) → Rests D.images bodies (seen self.old)
+            → Rests D.images (bodies ++ body.now ∷ []) (seen self.new)) }
+        ensures longer { OnOk result ((is_second self.new ≡ is_second self.old)
+            × (generation_in self.new ≡ generation_in self.old)
+            × (length_of self.new ≡ length_of self.old + 5 + length body.now)
+            × (limit_of self.new ≡ limit_of self.old)) }
+        ensures fault { IsErrOf result AppendFault.DiskFault → (bodies : List (List ℕ))
+            → Rests D.images bodies (seen self.old)
+            → Rests D.images bodies (seen self.new)
+            ⊎ Began D.images bodies body.now (seen self.new) }
         ensures same { OnErr result (SameSide self.old self.new) }
-        ensures full { (sum : ℕ) → result ≡ Err (AppendFault.Full sum) → (sum ≡ length_of self.old + 5 + length body.now) × (limit_of self.old < sum) × (self.new ≡ self.old) }
-        ensures fits { limit_of self.old < length_of self.old + 5 + length body.now → result ≡ Err (AppendFault.Full (length_of self.old + 5 + length body.now)) }
+        ensures full { (sum : ℕ) → result ≡ Err (AppendFault.Full sum)
+            → (sum ≡ length_of self.old + 5 + length body.now) × (limit_of self.old < sum)
+            × (self.new ≡ self.old) }
+        ensures fits { limit_of self.old < length_of self.old + 5 + length body.now
+            → result ≡ Err (AppendFault.Full (length_of self.old + 5 + length body.now)) }
         ensures count { NoneFell D.faults (disks_of self.old) (disks_of self.new) }
-        ensures cause { IsErrOf result AppendFault.DiskFault → OneRose D.faults (disks_of self.old) (disks_of self.new) }
+        ensures cause { IsErrOf result AppendFault.DiskFault
+            → OneRose D.faults (disks_of self.old) (disks_of self.new) }
     {
         let sum = self.gate + 6 + body.len() as u64;
         if sum > self.side {
@@ -137,13 +155,26 @@ impl<D: Disk> Journal<D> {
     /// or what was begun; after Ok the list alone. A fault leaves it begun.
     pub fn repair(&mut self) -> Result<(), DiskFault>
         requires { Stands D.images (seen self.old) }
-        ensures nothing { (bodies : List (List ℕ)) → Rests D.images bodies (seen self.old) → (result ≡ Ok tt) × (self.new ≡ self.old) }
-        ensures goes { (bodies : List (List ℕ)) (body : List ℕ) → Began D.images bodies body (seen self.old) → Within D.moment D.since (With bodies body) (disks_of self.old) (disks_of self.new) }
-        ensures goes_side { (bodies added : List (List ℕ)) → BeganSide D.images bodies added (seen self.old) → Within D.moment D.since (Says (bodies ∷ added ∷ [])) (disks_of self.old) (disks_of self.new) }
-        ensures done { OnOk result ((bodies : List (List ℕ)) (body : List ℕ) → Began D.images bodies body (seen self.old) → Rests D.images bodies (seen self.new)) }
-        ensures done_side { OnOk result ((bodies added : List (List ℕ)) → BeganSide D.images bodies added (seen self.old) → Rests D.images bodies (seen self.new)) }
-        ensures fault { OnErr result ((bodies : List (List ℕ)) (body : List ℕ) → Began D.images bodies body (seen self.old) → Began D.images bodies body (seen self.new)) }
-        ensures fault_side { OnErr result ((bodies added : List (List ℕ)) → BeganSide D.images bodies added (seen self.old) → BeganSide D.images bodies added (seen self.new)) }
+        ensures nothing { (bodies : List (List ℕ)) → Rests D.images bodies (seen self.old)
+            → (result ≡ Ok tt) × (self.new ≡ self.old) }
+        ensures goes { (bodies : List (List ℕ)) (body : List ℕ)
+            → Began D.images bodies body (seen self.old)
+            → Within D.moment D.since (With bodies body) (disks_of self.old) (disks_of self.new) }
+        ensures goes_side { (bodies added : List (List ℕ))
+            → BeganSide D.images bodies added (seen self.old)
+            → Within D.moment D.since (Says (bodies ∷ added ∷ [])) (disks_of self.old)
+            (disks_of self.new) }
+        ensures done { OnOk result ((bodies : List (List ℕ)) (body : List ℕ)
+            → Began D.images bodies body (seen self.old) → Rests D.images bodies (seen self.new)) }
+        ensures done_side { OnOk result ((bodies added : List (List ℕ))
+            → BeganSide D.images bodies added (seen self.old)
+            → Rests D.images bodies (seen self.new)) }
+        ensures fault { OnErr result ((bodies : List (List ℕ)) (body : List ℕ)
+            → Began D.images bodies body (seen self.old)
+            → Began D.images bodies body (seen self.new)) }
+        ensures fault_side { OnErr result ((bodies added : List (List ℕ))
+            → BeganSide D.images bodies added (seen self.old)
+            → BeganSide D.images bodies added (seen self.new)) }
         ensures same { SameSide self.old self.new }
         ensures count { NoneFell D.faults (disks_of self.old) (disks_of self.new) }
         ensures cause { OnErr result (OneRose D.faults (disks_of self.old) (disks_of self.new)) }
@@ -172,9 +203,13 @@ impl<D: Disk> Journal<D> {
     pub fn begin_side(&mut self) -> Result<(), DiskFault>
         requires rests { (bodies : List (List ℕ)) × Rests D.images bodies (seen self.old) }
         requires next { generation_in self.old < last_count }
-        ensures goes { (bodies : List (List ℕ)) → Rests D.images bodies (seen self.old) → Within D.moment D.since (Says (bodies ∷ [])) (disks_of self.old) (disks_of self.new) }
-        ensures rests { (bodies : List (List ℕ)) → Rests D.images bodies (seen self.old) → Rests D.images bodies (seen self.new) }
-        ensures begun { OnOk result ((bodies : List (List ℕ)) → Rests D.images bodies (seen self.old) → Makes D.shown D.images bodies [] (seen self.new)) }
+        ensures goes { (bodies : List (List ℕ)) → Rests D.images bodies (seen self.old)
+            → Within D.moment D.since (Says (bodies ∷ [])) (disks_of self.old) (disks_of self.new) }
+        ensures rests { (bodies : List (List ℕ)) → Rests D.images bodies (seen self.old)
+            → Rests D.images bodies (seen self.new) }
+        ensures begun { OnOk result ((bodies : List (List ℕ))
+            → Rests D.images bodies (seen self.old)
+            → Makes D.shown D.images bodies [] (seen self.new)) }
         ensures same { SameSide self.old self.new }
         ensures count { NoneFell D.faults (disks_of self.old) (disks_of self.new) }
         ensures cause { OnErr result (OneRose D.faults (disks_of self.old) (disks_of self.new)) }
@@ -191,15 +226,26 @@ impl<D: Disk> Journal<D> {
     /// Adds a record to the side in the making. A crash leaves the list throughout. `Full` comes exactly where the
     /// length of that side with the record, which it tells, passes the limit, and before anything is written.
     pub fn add_record(&mut self, body: &[u8]) -> Result<(), AppendFault>
-        requires { (bodies : List (List ℕ)) × (added : List (List ℕ)) × Makes D.shown D.images bodies added (seen self.old) }
-        ensures goes { (bodies added : List (List ℕ)) → Makes D.shown D.images bodies added (seen self.old) → Within D.moment D.since (Says (bodies ∷ [])) (disks_of self.old) (disks_of self.new) }
-        ensures rests { (bodies added : List (List ℕ)) → Makes D.shown D.images bodies added (seen self.old) → Rests D.images bodies (seen self.new) }
-        ensures added { OnOk result ((bodies added : List (List ℕ)) → Makes D.shown D.images bodies added (seen self.old) → Makes D.shown D.images bodies (added ++ body.now ∷ []) (seen self.new)) }
+        requires { (bodies : List (List ℕ)) × (added : List (List ℕ))
+            × Makes D.shown D.images bodies added (seen self.old) }
+        ensures goes { (bodies added : List (List ℕ))
+            → Makes D.shown D.images bodies added (seen self.old)
+            → Within D.moment D.since (Says (bodies ∷ [])) (disks_of self.old) (disks_of self.new) }
+        ensures rests { (bodies added : List (List ℕ))
+            → Makes D.shown D.images bodies added (seen self.old)
+            → Rests D.images bodies (seen self.new) }
+        ensures added { OnOk result ((bodies added : List (List ℕ))
+            → Makes D.shown D.images bodies added (seen self.old)
+            → Makes D.shown D.images bodies (added ++ body.now ∷ []) (seen self.new)) }
         ensures same { SameSide self.old self.new }
-        ensures full { (sum : ℕ) → result ≡ Err (AppendFault.Full sum) → (sum ≡ made_length_of self.old + 5 + length body.now) × (limit_of self.old < sum) × (self.new ≡ self.old) }
-        ensures fits { limit_of self.old < made_length_of self.old + 5 + length body.now → result ≡ Err (AppendFault.Full (made_length_of self.old + 5 + length body.now)) }
+        ensures full { (sum : ℕ) → result ≡ Err (AppendFault.Full sum)
+            → (sum ≡ made_length_of self.old + 5 + length body.now) × (limit_of self.old < sum)
+            × (self.new ≡ self.old) }
+        ensures fits { limit_of self.old < made_length_of self.old + 5 + length body.now
+            → result ≡ Err (AppendFault.Full (made_length_of self.old + 5 + length body.now)) }
         ensures count { NoneFell D.faults (disks_of self.old) (disks_of self.new) }
-        ensures cause { IsErrOf result AppendFault.DiskFault → OneRose D.faults (disks_of self.old) (disks_of self.new) }
+        ensures cause { IsErrOf result AppendFault.DiskFault
+            → OneRose D.faults (disks_of self.old) (disks_of self.new) }
     {
         let sum = self.made + 6 + body.len() as u64;
         if sum > self.side {
@@ -218,11 +264,23 @@ impl<D: Disk> Journal<D> {
     /// crash leaves the list, or, from that byte on, the added records. After Ok the journal's list is these. A fault
     /// leaves the list, or the side is begun.
     pub fn finish_side(&mut self) -> Result<(), DiskFault>
-        requires { (bodies : List (List ℕ)) × (added : List (List ℕ)) × Makes D.shown D.images bodies added (seen self.old) }
-        ensures goes { (bodies added : List (List ℕ)) → Makes D.shown D.images bodies added (seen self.old) → Within D.moment D.since (Says (bodies ∷ added ∷ [])) (disks_of self.old) (disks_of self.new) }
-        ensures done { OnOk result ((bodies added : List (List ℕ)) → Makes D.shown D.images bodies added (seen self.old) → Rests D.images added (seen self.new)) }
-        ensures turned { OnOk result ((is_second self.new ≡ not (is_second self.old)) × (generation_in self.new ≡ generation_in self.old + 1) × (length_of self.new ≡ made_length_of self.old) × (limit_of self.new ≡ limit_of self.old)) }
-        ensures fault { OnErr result ((bodies added : List (List ℕ)) → Makes D.shown D.images bodies added (seen self.old) → Rests D.images bodies (seen self.new) ⊎ BeganSide D.images bodies added (seen self.new)) }
+        requires { (bodies : List (List ℕ)) × (added : List (List ℕ))
+            × Makes D.shown D.images bodies added (seen self.old) }
+        ensures goes { (bodies added : List (List ℕ))
+            → Makes D.shown D.images bodies added (seen self.old)
+            → Within D.moment D.since (Says (bodies ∷ added ∷ [])) (disks_of self.old)
+            (disks_of self.new) }
+        ensures done { OnOk result ((bodies added : List (List ℕ))
+            → Makes D.shown D.images bodies added (seen self.old)
+            → Rests D.images added (seen self.new)) }
+        ensures turned { OnOk result ((is_second self.new ≡ not (is_second self.old))
+            × (generation_in self.new ≡ generation_in self.old + 1)
+            × (length_of self.new ≡ made_length_of self.old)
+            × (limit_of self.new ≡ limit_of self.old)) }
+        ensures fault { OnErr result ((bodies added : List (List ℕ))
+            → Makes D.shown D.images bodies added (seen self.old)
+            → Rests D.images bodies (seen self.new)
+            ⊎ BeganSide D.images bodies added (seen self.new)) }
         ensures same { OnErr result (SameSide self.old self.new) }
         ensures count { NoneFell D.faults (disks_of self.old) (disks_of self.new) }
         ensures cause { OnErr result (OneRose D.faults (disks_of self.old) (disks_of self.new)) }

@@ -1,4 +1,5 @@
-// Making a side that is not current.
+//! Making a side that is not current.
+
 ghost use Rattle.std.specs.Prelude.{◌≡◌, ◌⊎◌, ◌≤◌, ◌<◌, ◌+◌, ◌-◌, ◌^◌, ◌++◌, ◌∷◌, [], ℕ, Bool, true, false, List, length, OnOk, OnErr, IfOk, IfSome, IsTrue, ◌↔◌};
 ghost use Rattle.wfs_ends.specs.Ends.{Rose};
 ghost use Rattle.disk_core.specs.Disk.{Leads, Goes, Every, Torn, Same, Keeps, Begins};
@@ -15,7 +16,8 @@ use wfs_ends::Failed;
 
 // Whether byte 0 reads 0.
 fn reads_zero<D: Disk>(disk: &mut D) -> Result<bool, Failed>
-    ensures zero { IfOk result (λ z. IfSome (D.shown disk.old) (λ s. IsTrue z ↔ Begins (0 ∷ []) s)) }
+    ensures zero { IfOk result (λ z. IfSome (D.shown disk.old)
+        (λ s. IsTrue z ↔ Begins (0 ∷ []) s)) }
     ensures same { D.shown disk.new ≡ D.shown disk.old }
     ensures crash { Leads D.moment D.since D.images Same disk.old disk.new }
     ensures count { D.faults disk.old ≤ D.faults disk.new }
@@ -28,8 +30,10 @@ fn reads_zero<D: Disk>(disk: &mut D) -> Result<bool, Failed>
 
 // Has byte 0 read 0. It is written only where it does not read so, since a write may leave any byte.
 fn zero_first<D: Disk>(disk: &mut D) -> Result<(), Failed>
-    ensures goes { (is_b : Bool) (generation : ℕ) → Idle is_b generation (D.images disk.old) → Goes D.moment D.since (Harmless is_b generation []) disk.old disk.new }
-    ensures still { (is_b : Bool) (generation : ℕ) → Idle is_b generation (D.images disk.old) → Idle is_b generation (D.images disk.new) }
+    ensures goes { (is_b : Bool) (generation : ℕ) → Idle is_b generation (D.images disk.old)
+        → Goes D.moment D.since (Harmless is_b generation []) disk.old disk.new }
+    ensures still { (is_b : Bool) (generation : ℕ) → Idle is_b generation (D.images disk.old)
+        → Idle is_b generation (D.images disk.new) }
     ensures zero { OnOk result (IfSome (D.shown disk.new) (Begins (0 ∷ []))) }
     ensures count { D.faults disk.old ≤ D.faults disk.new }
     ensures cause { OnErr result (Rose (D.faults disk.old) (D.faults disk.new)) }
@@ -42,8 +46,10 @@ fn zero_first<D: Disk>(disk: &mut D) -> Result<(), Failed>
 
 // Closes byte 0 for good, and cuts what stands behind it.
 pub(crate) fn clear_on<D: Disk>(disk: &mut D) -> Result<(), Failed>
-    ensures goes { (is_b : Bool) (generation : ℕ) → Idle is_b generation (D.images disk.old) → Goes D.moment D.since (Harmless is_b generation []) disk.old disk.new }
-    ensures still { (is_b : Bool) (generation : ℕ) → Idle is_b generation (D.images disk.old) → Idle is_b generation (D.images disk.new) }
+    ensures goes { (is_b : Bool) (generation : ℕ) → Idle is_b generation (D.images disk.old)
+        → Goes D.moment D.since (Harmless is_b generation []) disk.old disk.new }
+    ensures still { (is_b : Bool) (generation : ℕ) → Idle is_b generation (D.images disk.old)
+        → Idle is_b generation (D.images disk.new) }
     ensures cleared { OnOk result (Every (D.images disk.new) (Begins (0 ∷ []))) }
     ensures cut { OnOk result (IfSome (D.shown disk.new) (λ s. s ≡ 0 ∷ [])) }
     ensures count { D.faults disk.old ≤ D.faults disk.new }
@@ -75,8 +81,10 @@ pub(crate) enum Making {
 
 // Makes a side of this text, which stands behind byte 0.
 pub(crate) fn make_on<D: Disk>(disk: &mut D, text: &[u8]) -> Making
-    ensures goes { (is_b : Bool) (generation : ℕ) → Idle is_b generation (D.images disk.old) → Goes D.moment D.since (HarmlessOr is_b generation (Gate [] text.now)) disk.old disk.new }
-    ensures now { (is_b : Bool) (generation : ℕ) → Idle is_b generation (D.images disk.old) → Made is_b generation text.now result (D.images disk.new) }
+    ensures goes { (is_b : Bool) (generation : ℕ) → Idle is_b generation (D.images disk.old)
+        → Goes D.moment D.since (HarmlessOr is_b generation (Gate [] text.now)) disk.old disk.new }
+    ensures now { (is_b : Bool) (generation : ℕ) → Idle is_b generation (D.images disk.old)
+        → Made is_b generation text.now result (D.images disk.new) }
     ensures count { D.faults disk.old ≤ D.faults disk.new }
     ensures cause { (result ≡ Making.Done) ⊎ Rose (D.faults disk.old) (D.faults disk.new) }
 {

@@ -1,4 +1,5 @@
-// What `recover` writes, once both files were synced and read.
+//! What `recover` writes, once both files were synced and read.
+
 ghost use Rattle.std.specs.Prelude.{◌≡◌, ◌≤◌, ◌∷◌, ◌++◌, [], ℕ, Bool, List, length, OnOk, OnErr, IfSome, true, false};
 ghost use Rattle.wfs_ends.specs.Ends.{Rose};
 ghost use Rattle.disk_core.specs.Disk.{Leads, Every, Torn, Same, Begins};
@@ -25,7 +26,8 @@ fn shut_first<D: Disk>(disk: &mut D) -> Result<(), Failed>
 
 // Closes byte 0 of the side that is not chosen, for good.
 fn quiet<D: Disk>(disks: &mut Pair<D>, second: bool) -> Result<(), Failed>
-    ensures torn { Leads D.moment D.since D.images (Torn 0 1) (spare second disks.old) (spare second disks.new) }
+    ensures torn { Leads D.moment D.since D.images (Torn 0 1) (spare second disks.old)
+        (spare second disks.new) }
     ensures same { chosen second disks.new ≡ chosen second disks.old }
     ensures shut { OnOk result (Every (D.images (spare second disks.new)) (Begins (0 ∷ []))) }
     ensures count { NoneFell D.faults disks.old disks.new }
@@ -40,10 +42,12 @@ fn quiet<D: Disk>(disks: &mut Pair<D>, second: bool) -> Result<(), Failed>
 
 // Closes byte 0 of that side where it is stale.
 fn quiet_stale<D: Disk>(disks: &mut Pair<D>, second: bool, is_stale: bool) -> Result<(), Failed>
-    ensures torn { Leads D.moment D.since D.images (Torn 0 1) (spare second disks.old) (spare second disks.new) }
+    ensures torn { Leads D.moment D.since D.images (Torn 0 1) (spare second disks.old)
+        (spare second disks.new) }
     ensures same { chosen second disks.new ≡ chosen second disks.old }
     ensures left { is_stale ≡ false → disks.new ≡ disks.old }
-    ensures shut { OnOk result (is_stale ≡ true → Every (D.images (spare second disks.new)) (Begins (0 ∷ []))) }
+    ensures shut { OnOk result (is_stale ≡ true
+        → Every (D.images (spare second disks.new)) (Begins (0 ∷ []))) }
     ensures count { NoneFell D.faults disks.old disks.new }
     ensures cause { OnErr result (OneRose D.faults disks.old disks.new) }
 {
@@ -56,7 +60,8 @@ fn quiet_stale<D: Disk>(disks: &mut Pair<D>, second: bool, is_stale: bool) -> Re
 
 // Makes the chosen side stable.
 fn sync_chosen<D: Disk>(disks: &mut Pair<D>, second: bool) -> Result<(), Failed>
-    ensures crash { Leads D.moment D.since D.images Same (chosen second disks.old) (chosen second disks.new) }
+    ensures crash { Leads D.moment D.since D.images Same (chosen second disks.old)
+        (chosen second disks.new) }
     ensures same { spare second disks.new ≡ spare second disks.old }
     ensures stable { OnOk result (IsStable D.shown D.images (chosen second disks.new)) }
     ensures count { NoneFell D.faults disks.old disks.new }
@@ -72,9 +77,12 @@ fn sync_chosen<D: Disk>(disks: &mut Pair<D>, second: bool) -> Result<(), Failed>
 // Closes a gate of the chosen side, for good.
 fn close_gate<D: Disk>(disks: &mut Pair<D>, second: bool, gate: u64) -> Result<(), Failed>
     requires { IfSome (D.shown (chosen second disks.old)) (λ s. gate ≤ length s) }
-    ensures torn { Leads D.moment D.since D.images (Torn gate 1) (chosen second disks.old) (chosen second disks.new) }
+    ensures torn { Leads D.moment D.since D.images (Torn gate 1) (chosen second disks.old)
+        (chosen second disks.new) }
     ensures same { spare second disks.new ≡ spare second disks.old }
-    ensures set { OnOk result ((front text : List ℕ) → length front ≡ gate → Every (D.images (chosen second disks.old)) (Gate front text) → Every (D.images (chosen second disks.new)) (Begins (front ++ 0 ∷ text))) }
+    ensures set { OnOk result ((front text : List ℕ) → length front ≡ gate
+        → Every (D.images (chosen second disks.old)) (Gate front text)
+        → Every (D.images (chosen second disks.new)) (Begins (front ++ 0 ∷ text))) }
     ensures stable { OnOk result (IsStable D.shown D.images (chosen second disks.new)) }
     ensures count { NoneFell D.faults disks.old disks.new }
     ensures cause { OnErr result (OneRose D.faults disks.old disks.new) }
@@ -94,11 +102,16 @@ fn close<D: Disk>(
     is_closed: bool,
 ) -> Result<(), Failed>
     requires { IfSome (D.shown (chosen second disks.old)) (λ s. gate ≤ length s) }
-    ensures torn { Leads D.moment D.since D.images (Torn gate 1) (chosen second disks.old) (chosen second disks.new) }
-    ensures crash { is_closed ≡ true → Leads D.moment D.since D.images Same (chosen second disks.old) (chosen second disks.new) }
+    ensures torn { Leads D.moment D.since D.images (Torn gate 1) (chosen second disks.old)
+        (chosen second disks.new) }
+    ensures crash { is_closed ≡ true → Leads D.moment D.since D.images Same
+        (chosen second disks.old) (chosen second disks.new) }
     ensures same { spare second disks.new ≡ spare second disks.old }
-    ensures goes { (r : Reading) → Known D.images second gate false is_closed r disks.old → Within D.moment D.since (SaysOr is_closed r) disks.old disks.new }
-    ensures held { OnOk result ((generation : ℕ) (bodies : List (List ℕ)) → Placed D.images second gate false is_closed generation bodies disks.old → HeldClosed D.images second generation gate bodies disks.new) }
+    ensures goes { (r : Reading) → Known D.images second gate false is_closed r disks.old
+        → Within D.moment D.since (SaysOr is_closed r) disks.old disks.new }
+    ensures held { OnOk result ((generation : ℕ) (bodies : List (List ℕ))
+        → Placed D.images second gate false is_closed generation bodies disks.old
+        → HeldClosed D.images second generation gate bodies disks.new) }
     ensures stable { OnOk result (IsStable D.shown D.images (chosen second disks.new)) }
     ensures count { NoneFell D.faults disks.old disks.new }
     ensures cause { OnErr result (OneRose D.faults disks.old disks.new) }
@@ -124,12 +137,18 @@ pub fn settle<D: Disk>(
     is_closed: bool,
 ) -> Result<(), Failed>
     requires { IfSome (D.shown (chosen second disks.old)) (λ s. gate ≤ length s) }
-    ensures goes { (r : Reading) → Known D.images second gate is_stale is_closed r disks.old → Always D.moment D.since (SaysOr is_closed r) disks.old disks.new }
-    ensures held { OnOk result ((generation : ℕ) (bodies : List (List ℕ)) → Placed D.images second gate is_stale is_closed generation bodies disks.old → HeldClosed D.images second generation gate bodies disks.new) }
+    ensures goes { (r : Reading) → Known D.images second gate is_stale is_closed r disks.old
+        → Always D.moment D.since (SaysOr is_closed r) disks.old disks.new }
+    ensures held { OnOk result ((generation : ℕ) (bodies : List (List ℕ))
+        → Placed D.images second gate is_stale is_closed generation bodies disks.old
+        → HeldClosed D.images second generation gate bodies disks.new) }
     ensures stable { OnOk result (IsStable D.shown D.images (chosen second disks.new)) }
-    ensures current { Leads D.moment D.since D.images (Torn gate 1) (chosen second disks.old) (chosen second disks.new) }
-    ensures current_closed { is_closed ≡ true → Leads D.moment D.since D.images Same (chosen second disks.old) (chosen second disks.new) }
-    ensures other { Leads D.moment D.since D.images (Torn 0 1) (spare second disks.old) (spare second disks.new) }
+    ensures current { Leads D.moment D.since D.images (Torn gate 1) (chosen second disks.old)
+        (chosen second disks.new) }
+    ensures current_closed { is_closed ≡ true → Leads D.moment D.since D.images Same
+        (chosen second disks.old) (chosen second disks.new) }
+    ensures other { Leads D.moment D.since D.images (Torn 0 1) (spare second disks.old)
+        (spare second disks.new) }
     ensures other_left { is_stale ≡ false → spare second disks.new ≡ spare second disks.old }
     ensures count { NoneFell D.faults disks.old disks.new }
     ensures cause { OnErr result (OneRose D.faults disks.old disks.new) }
@@ -148,9 +167,13 @@ pub fn shut_stale<D: Disk>(
     first_is_stale: bool,
     second_is_stale: bool,
 ) -> Result<(), Failed>
-    ensures goes { Dormant first_is_stale (D.images disks.old.a) → Dormant second_is_stale (D.images disks.old.b) → Always D.moment D.since Nothing disks.old disks.new }
-    ensures unused_a { OnOk result ((first_is_stale ≡ false → Unused (D.images disks.old.a)) → Unused (D.images disks.new.a)) }
-    ensures unused_b { OnOk result ((second_is_stale ≡ false → Unused (D.images disks.old.b)) → Unused (D.images disks.new.b)) }
+    ensures goes { Dormant first_is_stale (D.images disks.old.a)
+        → Dormant second_is_stale (D.images disks.old.b)
+        → Always D.moment D.since Nothing disks.old disks.new }
+    ensures unused_a { OnOk result ((first_is_stale ≡ false → Unused (D.images disks.old.a))
+        → Unused (D.images disks.new.a)) }
+    ensures unused_b { OnOk result ((second_is_stale ≡ false → Unused (D.images disks.old.b))
+        → Unused (D.images disks.new.b)) }
     ensures side_a { Leads D.moment D.since D.images (Torn 0 1) disks.old.a disks.new.a }
     ensures side_b { Leads D.moment D.since D.images (Torn 0 1) disks.old.b disks.new.b }
     ensures left_a { first_is_stale ≡ false → disks.new.a ≡ disks.old.a }

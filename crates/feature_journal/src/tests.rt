@@ -119,7 +119,14 @@ fn run_fresh<D: Disk + Drop>(disks: Pair<D>) -> (bool, Pair<D>)
 
 // Side a holds `hi`, and then the tail `x` behind a gate that is neither open nor closed. The calls that are listed fail.
 fn tailed_disk(alloc: Global, listed: &[u64]) -> Mem<MemDisk>
-    ensures { IfOk result (λ m. Every (⟦<MemDisk as Disk>⟧.images m) (TailOf (record { lists = ((104 ∷ 105 ∷ []) ∷ []) ∷ []; generation = 1; bodies = (104 ∷ 105 ∷ []) ∷ []; body = 120 ∷ []; text = [] }))) }
+    ensures { IfOk result (λ m. Every (⟦<MemDisk as Disk>⟧.images m)
+        (TailOf (record {
+          lists = ((104 ∷ 105 ∷ []) ∷ []) ∷ [];
+          generation = 1;
+          bodies = (104 ∷ 105 ∷ []) ∷ [];
+          body = 120 ∷ [];
+          text = [];
+        }))) }
 {
     let mut bytes = Vec::new(alloc);
     bytes.extend_from_slice(b"\x01WFSJNL\x01\0\0\0\0\0\0\0\x01\x01\0\0\0\x02hi\x05\0\0\0\x01x\0")?;
@@ -130,7 +137,14 @@ fn tailed_disk(alloc: Global, listed: &[u64]) -> Mem<MemDisk>
 
 // Ends the tail, and takes the journal over: its length and generation and whether something is begun, and the disks.
 fn run_settle<D: Disk + Drop>(disks: Pair<D>) -> (Option<(u64, u64, bool)>, Pair<D>)
-    requires tailed { Every (D.images disks.a) (TailOf (record { lists = ((104 ∷ 105 ∷ []) ∷ []) ∷ []; generation = 1; bodies = (104 ∷ 105 ∷ []) ∷ []; body = 120 ∷ []; text = [] })) }
+    requires tailed { Every (D.images disks.a)
+        (TailOf (record {
+          lists = ((104 ∷ 105 ∷ []) ∷ []) ∷ [];
+          generation = 1;
+          bodies = (104 ∷ 105 ∷ []) ∷ [];
+          body = 120 ∷ [];
+          text = [];
+        })) }
     requires few { Every (D.images disks.b) (λ c. length c < 17) }
 {
     let mut disks = disks;

@@ -26,10 +26,12 @@ fn key_of(id: Rid) -> (u32, u64)
 
 /// From now on this stands under the identifier.
 pub(crate) fn change(changes: &mut Changes, id: Rid, now: Option<Feature>) -> Mem<()>
-    ensures ok { OnOk result ((other : Rid) → change_at other changes.new.entries ≡ (if is_same id other then Some now else change_at other changes.old.entries)) }
+    ensures ok { OnOk result ((other : Rid) → change_at other changes.new.entries
+        ≡ (if is_same id other then Some now else change_at other changes.old.entries)) }
     ensures err { OnErr result (changes.new.entries ≡ changes.old.entries) }
     ensures keyed { IsOf id now → AreKeyed changes.old.entries → AreKeyed changes.new.entries }
-    ensures fitting { (schema : Schema) → FitsIf schema now → AreFitting schema changes.old.entries → AreFitting schema changes.new.entries }
+    ensures fitting { (schema : Schema) → FitsIf schema now → AreFitting schema changes.old.entries
+        → AreFitting schema changes.new.entries }
 {
     match changes.insert(key_of(id), now) {
         Ok(_) => Ok(()),
@@ -83,7 +85,8 @@ pub(crate) fn next_put(changes: &Changes, after: Option<Rid>) -> Option<&Feature
 
 /// Those of the identifiers under which nothing has changed.
 pub(crate) fn kept_ids(alloc: Global, ids: &[Rid], changes: &Changes) -> Mem<Vec<Rid>>
-    ensures { IfOk result (λ kept. kept.items ≡ filter (λ id. not (is_some (change_at id changes.now.entries))) ids.now) }
+    ensures { IfOk result (λ kept. kept.items ≡ filter
+        (λ id. not (is_some (change_at id changes.now.entries))) ids.now) }
 {
     let mut kept = Vec::new(alloc);
     for id in ids {

@@ -42,19 +42,26 @@ impl<'a, V: FeatureView> Overlay<'a, V> {
 
     /// The feature stands under its identifier, whether one stood there before or not. The view's schema allows it.
     pub fn put(&mut self, feature: Feature) -> Mem<()>
-        requires { feature_fits (⟦<Overlay<'a, V> as FeatureView>⟧.schema self.old) feature ≡ Ok tt }
-        ensures ok { let features = ⟦<Overlay<'a, V> as FeatureView>⟧.features in OnOk result (features self.new ≡ laid (features self.old) feature.id (Some feature)) }
-        ensures err { let features = ⟦<Overlay<'a, V> as FeatureView>⟧.features in OnErr result (features self.new ≡ features self.old) }
-        ensures schema { let schema = ⟦<Overlay<'a, V> as FeatureView>⟧.schema in schema self.new ≡ schema self.old }
+        requires { feature_fits (⟦<Overlay<'a, V> as FeatureView>⟧.schema self.old) feature
+            ≡ Ok tt }
+        ensures ok { let features = ⟦<Overlay<'a, V> as FeatureView>⟧.features in OnOk result
+            (features self.new ≡ laid (features self.old) feature.id (Some feature)) }
+        ensures err { let features = ⟦<Overlay<'a, V> as FeatureView>⟧.features in OnErr result
+            (features self.new ≡ features self.old) }
+        ensures schema { let schema = ⟦<Overlay<'a, V> as FeatureView>⟧.schema in schema self.new
+            ≡ schema self.old }
     {
         change(&mut self.changes, feature.id, Some(feature))
     }
 
     /// No feature stands under this identifier any more.
     pub fn remove(&mut self, id: Rid) -> Mem<()>
-        ensures ok { let features = ⟦<Overlay<'a, V> as FeatureView>⟧.features in OnOk result (features self.new ≡ laid (features self.old) id None) }
-        ensures err { let features = ⟦<Overlay<'a, V> as FeatureView>⟧.features in OnErr result (features self.new ≡ features self.old) }
-        ensures schema { let schema = ⟦<Overlay<'a, V> as FeatureView>⟧.schema in schema self.new ≡ schema self.old }
+        ensures ok { let features = ⟦<Overlay<'a, V> as FeatureView>⟧.features in OnOk result
+            (features self.new ≡ laid (features self.old) id None) }
+        ensures err { let features = ⟦<Overlay<'a, V> as FeatureView>⟧.features in OnErr result
+            (features self.new ≡ features self.old) }
+        ensures schema { let schema = ⟦<Overlay<'a, V> as FeatureView>⟧.schema in schema self.new
+            ≡ schema self.old }
     {
         change(&mut self.changes, id, None)
     }
@@ -65,7 +72,8 @@ impl<'a, V: FeatureView> FeatureView for Overlay<'a, V> {
 
     ghost schema = { λ overlay. V.schema overlay.view.now };
 
-    ghost most_near = { λ overlay kind area. V.most_near overlay.view.now kind area + length overlay.changes.entries };
+    ghost most_near = { λ overlay kind area. V.most_near overlay.view.now kind area + length
+        overlay.changes.entries };
 
     fn get(&self, id: Rid) -> Option<&Feature> {
         match changed(&self.changes, id) {

@@ -23,7 +23,8 @@ pub(crate) fn next_kept<'a, V: FeatureView>(
     after: Option<Rid>,
     place: &mut u64,
 ) -> Option<&'a Feature>
-    ensures value { IsFirst after (kept_at (V.features view.now) changes.now.entries) (option_copied result) }
+    ensures value { IsFirst after (kept_at (V.features view.now) changes.now.entries)
+        (option_copied result) }
     ensures view { IsView (V.schema view.now) (V.features view.now) }
 {
     let mut passed = after;

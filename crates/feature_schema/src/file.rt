@@ -18,7 +18,8 @@ use wfs_ends::{List, Text};
 
 #[tactic(auto, unfolding(crate::specs::File::srs_step))]
 fn add_srs(alloc: Global, found: &mut Vec<Text>, value: &Value) -> Result<(), SchemaFault>
-    ensures { GivesBut OutOfMemory (λ _. found.new.items) result (srs_step found.old.items (view value.now)) }
+    ensures { GivesBut OutOfMemory (λ _. found.new.items) result
+        (srs_step found.old.items (view value.now)) }
 {
     let Some(text) = value.as_str() else {
         return Err(bad_key(alloc, "srs"));

@@ -124,7 +124,8 @@ fn new_property(found: &[Property], name: Text) -> Result<Text, SchemaFault>
 
 #[tactic(auto, unfolding(crate::specs::File::property_step))]
 fn add_property(alloc: Global, found: &mut Vec<Property>, value: &Value) -> Result<(), SchemaFault>
-    ensures { GivesBut OutOfMemory (λ _. found.new.items) result (property_step found.old.items (view value.now)) }
+    ensures { GivesBut OutOfMemory (λ _. found.new.items) result
+        (property_step found.old.items (view value.now)) }
 {
     let Some(table) = value.as_table() else {
         return Err(bad_key(alloc, "property"));
@@ -145,7 +146,8 @@ fn add_property(alloc: Global, found: &mut Vec<Property>, value: &Value) -> Resu
 
 #[tactic(auto, using(wfs_ends::proofs::Turns::each_end))]
 fn properties_of(alloc: Global, values: &[Value]) -> Result<Vec<Property>, SchemaFault>
-    ensures { GivesBut OutOfMemory (λ v. v.items) result (each property_step [] (map view values.now)) }
+    ensures { GivesBut OutOfMemory (λ v. v.items) result
+        (each property_step [] (map view values.now)) }
 {
     let mut found = Vec::new(alloc);
     for value in values {

@@ -31,7 +31,8 @@ fn add(line: &mut String, text: &str) -> Mem<()>
 
 #[tactic(auto, using(crate::proofs::Lines::three), unfolding(crate::specs::Signature::property_text))]
 fn add_property(line: &mut String, property: &Property) -> Mem<()>
-    ensures { OnOk result (string_bytes line.new ≡ string_bytes line.old ++ property_text property.now) }
+    ensures { OnOk result (string_bytes line.new
+        ≡ string_bytes line.old ++ property_text property.now) }
 {
     add(line, property.name.as_str())?;
     add(line, ":")?;
@@ -41,7 +42,8 @@ fn add_property(line: &mut String, property: &Property) -> Mem<()>
 
 #[tactic(auto, using(crate::proofs::Lines::two), unfolding(crate::specs::Signature::next_text))]
 fn add_next(line: &mut String, property: &Property) -> Mem<()>
-    ensures { OnOk result (string_bytes line.new ≡ string_bytes line.old ++ next_text property.now) }
+    ensures { OnOk result (string_bytes line.new
+        ≡ string_bytes line.old ++ next_text property.now) }
 {
     add(line, ",")?;
     add_property(line, property)?;
@@ -49,7 +51,8 @@ fn add_next(line: &mut String, property: &Property) -> Mem<()>
 }
 
 fn add_rest(line: &mut String, properties: &[Property]) -> Mem<()>
-    ensures { OnOk result (string_bytes line.new ≡ string_bytes line.old ++ flat_map next_text properties.now) }
+    ensures { OnOk result (string_bytes line.new
+        ≡ string_bytes line.old ++ flat_map next_text properties.now) }
 {
     for property in properties {
         add_next(line, property)?;
@@ -59,7 +62,8 @@ fn add_rest(line: &mut String, properties: &[Property]) -> Mem<()>
 
 #[tactic(auto, unfolding(crate::specs::Signature::properties_text))]
 fn add_properties(line: &mut String, properties: &[Property]) -> Mem<()>
-    ensures { OnOk result (string_bytes line.new ≡ string_bytes line.old ++ properties_text properties.now) }
+    ensures { OnOk result (string_bytes line.new
+        ≡ string_bytes line.old ++ properties_text properties.now) }
 {
     match properties {
         [first, rest @ ..] => {
@@ -82,7 +86,8 @@ fn add_type(line: &mut String, of_type: &FeatureType) -> Mem<()>
 }
 
 fn add_types(line: &mut String, types: &[FeatureType]) -> Mem<()>
-    ensures { OnOk result (string_bytes line.new ≡ string_bytes line.old ++ flat_map type_text types.now) }
+    ensures { OnOk result (string_bytes line.new
+        ≡ string_bytes line.old ++ flat_map type_text types.now) }
 {
     for of_type in types {
         add_type(line, of_type)?;

@@ -90,7 +90,8 @@ pub(crate) fn prefix_at(alloc: Global, table: &Table) -> Result<Text, SchemaFaul
 
 // The array at a key.
 fn array_at<'a>(table: &'a Table, key: &str) -> Option<&'a Vec<Value>>
-    ensures { option_map (λ s. array_view s.now) result ≡ option_and_then as_array (get_member key.now (table_view table.now)) }
+    ensures { option_map (λ s. array_view s.now) result
+        ≡ option_and_then as_array (get_member key.now (table_view table.now)) }
 {
     match value_at(table, key) {
         Some(value) => value.as_array(),
@@ -105,7 +106,8 @@ pub(crate) fn list_at<'a>(
     table: &'a Table,
     key: &str,
 ) -> Result<&'a [Value], SchemaFault>
-    ensures { GivesBut OutOfMemory (λ t. map view t.now) result (list_at key.now (table_view table.now)) }
+    ensures { GivesBut OutOfMemory (λ t. map view t.now) result
+        (list_at key.now (table_view table.now)) }
 {
     let Some(list) = array_at(table, key) else {
         return Err(bad_key(alloc, key));
@@ -135,7 +137,8 @@ pub(crate) fn tables_at<'a>(
     key: &str,
     least: usize,
 ) -> Result<&'a [Value], SchemaFault>
-    ensures { GivesBut OutOfMemory (λ t. map view t.now) result (tables_at least key.now (table_view table.now)) }
+    ensures { GivesBut OutOfMemory (λ t. map view t.now) result
+        (tables_at least key.now (table_view table.now)) }
 {
     let values = list_at(alloc, table, key)?;
     if !are_tables(values, least) {
@@ -163,14 +166,16 @@ fn is_known(known: &[&str], key: &str) -> bool
 
 // The first key of the map that is none of these.
 fn other_key<'a>(table: &'a Table, known: &[&str]) -> Option<&'a String>
-    ensures { option_map (λ s. s.now) result ≡ find (λ k. not (list_any (λ n. bytes_eq n.now (string_bytes k)) known.now)) (keys table.now) }
+    ensures { option_map (λ s. s.now) result ≡ find
+        (λ k. not (list_any (λ n. bytes_eq n.now (string_bytes k)) known.now)) (keys table.now) }
 {
     table.keys().find(|k| !is_known(known, k.as_str()))
 }
 
 // The first key, by name, that is none of these.
 fn unknown_of<'a>(table: &'a Table, known: &[&str]) -> Option<&'a str>
-    ensures { option_map (λ s. s.now) result ≡ unknown_of (map (λ n. n.now) known.now) (table_view table.now) }
+    ensures { option_map (λ s. s.now) result ≡ unknown_of (map (λ n. n.now) known.now)
+        (table_view table.now) }
 {
     match other_key(table, known) {
         Some(key) => Some(key.as_str()),
@@ -181,7 +186,8 @@ fn unknown_of<'a>(table: &'a Table, known: &[&str]) -> Option<&'a str>
 // No key but these.
 #[tactic(auto, unfolding(crate::specs::Tables::no_others))]
 pub(crate) fn no_others(alloc: Global, table: &Table, known: &[&str]) -> Result<(), SchemaFault>
-    ensures { GivesBut OutOfMemory (λ u. u) result (no_others (map (λ n. n.now) known.now) (table_view table.now)) }
+    ensures { GivesBut OutOfMemory (λ u. u) result
+        (no_others (map (λ n. n.now) known.now) (table_view table.now)) }
 {
     match unknown_of(table, known) {
         Some(key) => Err(bad_key(alloc, key)),

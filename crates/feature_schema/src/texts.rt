@@ -30,7 +30,8 @@ fn count_of_characters(text: &str) -> usize
 
 // 1 to 256 characters of XML, without line feeds.
 fn has_line_characters(text: &str) -> bool
-    ensures { result ≡ (is_in_range 1 256 (length (chars text.now)) && list_all is_line_character (chars text.now)) }
+    ensures { result ≡ (is_in_range 1 256 (length (chars text.now)) && list_all is_line_character
+        (chars text.now)) }
 {
     let count = count_of_characters(text);
     count >= 1 && count <= 256 && are_line_characters(text)

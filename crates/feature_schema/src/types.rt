@@ -36,7 +36,8 @@ fn new_type(found: &[FeatureType], name: Text) -> Result<Text, SchemaFault>
 
 #[tactic(auto, unfolding(crate::specs::File::type_step))]
 fn add_type(alloc: Global, found: &mut Vec<FeatureType>, value: &Value) -> Result<(), SchemaFault>
-    ensures { GivesBut OutOfMemory (λ _. found.new.items) result (type_step found.old.items (view value.now)) }
+    ensures { GivesBut OutOfMemory (λ _. found.new.items) result
+        (type_step found.old.items (view value.now)) }
 {
     let Some(table) = value.as_table() else {
         return Err(bad_key(alloc, "type"));

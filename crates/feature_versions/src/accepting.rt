@@ -46,10 +46,14 @@ fn lay<'a, V: FeatureView>(
     schema: &Schema,
     part: &Part,
 ) -> Mem<bool>
-    requires { let schema_of = ⟦<Overlay<'a, V> as FeatureView>⟧.schema in schema_of overlay.old ≡ schema.now }
-    ensures value { let features = ⟦<Overlay<'a, V> as FeatureView>⟧.features in IfOk result (λ yes. yes ≡ part_on schema.now (features overlay.old) part.now) }
-    ensures laid { let features = ⟦<Overlay<'a, V> as FeatureView>⟧.features in IfOk result (λ yes. yes ≡ true → features overlay.new ≡ part_laid (features overlay.old) part.now) }
-    ensures schema { let schema_of = ⟦<Overlay<'a, V> as FeatureView>⟧.schema in schema_of overlay.new ≡ schema_of overlay.old }
+    requires { let schema_of = ⟦<Overlay<'a, V> as FeatureView>⟧.schema in schema_of overlay.old
+        ≡ schema.now }
+    ensures value { let features = ⟦<Overlay<'a, V> as FeatureView>⟧.features in IfOk result
+        (λ yes. yes ≡ part_on schema.now (features overlay.old) part.now) }
+    ensures laid { let features = ⟦<Overlay<'a, V> as FeatureView>⟧.features in IfOk result
+        (λ yes. yes ≡ true → features overlay.new ≡ part_laid (features overlay.old) part.now) }
+    ensures schema { let schema_of = ⟦<Overlay<'a, V> as FeatureView>⟧.schema in schema_of
+        overlay.new ≡ schema_of overlay.old }
 {
     match part {
         Part::Put(feature) => {
@@ -76,7 +80,8 @@ pub(crate) fn are_parts<V: FeatureView>(
     parts: &[Part],
 ) -> Mem<bool>
     requires { V.schema view.now ≡ schema.now }
-    ensures { (kept : Durable) → kept.features ≡ V.features view.now → IfOk result (λ yes. yes ≡ are_parts schema.now kept parts.now) }
+    ensures { (kept : Durable) → kept.features ≡ V.features view.now
+        → IfOk result (λ yes. yes ≡ are_parts schema.now kept parts.now) }
 {
     let mut overlay = Overlay::over(alloc, view);
     for part in parts {
@@ -103,7 +108,8 @@ fn is_among(names: &[Text], name: &str) -> bool
 
 // Whether a name is not empty, and stands not among others.
 fn is_apart(name: &str, others: &[Text]) -> bool
-    ensures { result ≡ (nat_lt 0 (length name.now) && not (list_any (is_same_name name.now) others.now)) }
+    ensures { result ≡ (nat_lt 0 (length name.now) && not
+        (list_any (is_same_name name.now) others.now)) }
 {
     !name.is_empty() && !is_among(others, name)
 }
@@ -161,7 +167,8 @@ fn are_numbers(counters: &[u64]) -> bool
 
 /// Whether there is a counter for each of so many types, and none is above the greatest number.
 pub(crate) fn are_counters(counters: &[u64], types: usize) -> bool
-    ensures { result ≡ ((length counters.now == types) && list_all (λ n. nat_le n most_number) counters.now) }
+    ensures { result ≡ ((length counters.now == types) && list_all (λ n. nat_le n most_number)
+        counters.now) }
 {
     counters.len() == types && are_numbers(counters)
 }

@@ -58,8 +58,10 @@ pub(crate) fn has_same_boxes(old: &Feature, new: &Feature) -> bool
 // Adds a feature with the box of a value, where it is a geometry.
 fn add_box(grid: &mut Grid, id: Rid, value: &Value)
     requires { IsSpare (boxes_in value.now) grid.old }
-    ensures pairs { (pairs : List Placed) → IsGridOf (pairs_at grid.old) pairs → IsGridOf (pairs_at grid.new) (pairs ++ placed id (boxes_in value.now)) }
-    ensures room { (place : Place) → room_at grid.old.room place ≤ room_at grid.new.room place + sum_by (taking place) (boxes_in value.now) }
+    ensures pairs { (pairs : List Placed) → IsGridOf (pairs_at grid.old) pairs
+        → IsGridOf (pairs_at grid.new) (pairs ++ placed id (boxes_in value.now)) }
+    ensures room { (place : Place) → room_at grid.old.room place ≤ room_at grid.new.room place +
+        sum_by (taking place) (boxes_in value.now) }
     ensures boxed { IsBoxedIn value.now }
 {
     if let Value::Shape(shape) = value {
@@ -69,7 +71,8 @@ fn add_box(grid: &mut Grid, id: Rid, value: &Value)
 
 // Takes out a feature with the box of a value, where it is a geometry.
 fn remove_box(grid: &mut Grid, id: Rid, value: &Value)
-    ensures pairs { (pairs : List Placed) → IsGridOf (pairs_at grid.old) (placed id (boxes_in value.now) ++ pairs) → IsGridOf (pairs_at grid.new) pairs }
+    ensures pairs { (pairs : List Placed) → IsGridOf (pairs_at grid.old)
+        (placed id (boxes_in value.now) ++ pairs) → IsGridOf (pairs_at grid.new) pairs }
     ensures room { HasNoLessRoom grid.old.room grid.new.room }
 {
     if let Value::Shape(shape) = value {
@@ -80,8 +83,10 @@ fn remove_box(grid: &mut Grid, id: Rid, value: &Value)
 /// Adds a feature with each of its boxes to a grid, which has room for them.
 pub(crate) fn place(grid: &mut Grid, feature: &Feature)
     requires { IsSpare (boxes_of feature.now) grid.old }
-    ensures pairs { (pairs : List Placed) → IsGridOf (pairs_at grid.old) pairs → IsGridOf (pairs_at grid.new) (pairs ++ placed_in feature.now) }
-    ensures room { (at : Place) → room_at grid.old.room at ≤ room_at grid.new.room at + taken_by at feature.now }
+    ensures pairs { (pairs : List Placed) → IsGridOf (pairs_at grid.old) pairs
+        → IsGridOf (pairs_at grid.new) (pairs ++ placed_in feature.now) }
+    ensures room { (at : Place) → room_at grid.old.room at ≤ room_at grid.new.room at + taken_by at
+        feature.now }
     ensures boxed { AreBoxed feature.now }
 {
     for value in feature.items() {
@@ -91,7 +96,8 @@ pub(crate) fn place(grid: &mut Grid, feature: &Feature)
 
 /// Takes a feature with each of its boxes out of a grid, which has them.
 pub(crate) fn displace(grid: &mut Grid, feature: &Feature)
-    ensures pairs { (pairs : List Placed) → IsGridOf (pairs_at grid.old) (placed_in feature.now ++ pairs) → IsGridOf (pairs_at grid.new) pairs }
+    ensures pairs { (pairs : List Placed) → IsGridOf (pairs_at grid.old)
+        (placed_in feature.now ++ pairs) → IsGridOf (pairs_at grid.new) pairs }
     ensures room { HasNoLessRoom grid.old.room grid.new.room }
 {
     for value in feature.items() {

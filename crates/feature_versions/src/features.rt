@@ -45,9 +45,14 @@ impl Model for Features {
 
     ghost coded = { Prim.hlevel (codes, filter_row.the_row.coded) };
 
-    ghost view = { λ f. record { schema = f.schema; kept = kept_in f.layers.items f.counters f.stored.list f.opening; room = room_in f.layers.items f.stored.spare } };
+    ghost view = { λ f. record {
+      schema = f.schema;
+      kept = kept_in f.layers.items f.counters f.stored.list f.opening;
+      room = room_in f.layers.items f.stored.spare;
+    } };
 
-    ghost invariant = { λ f. IsHeld f.schema f.layers.items (kept_in f.layers.items f.counters f.stored.list f.opening) };
+    ghost invariant = { λ f. IsHeld f.schema f.layers.items
+        (kept_in f.layers.items f.counters f.stored.list f.opening) };
 }
 
 // No number was given of any type.
@@ -83,7 +88,9 @@ impl Features {
 
     // Whether nothing is kept yet.
     fn is_new(&self) -> bool
-        ensures { result ≡ (((length self.now.kept.features == 0) && (length self.now.kept.stored == 0)) && ((self.now.kept.opening == 0) && list_all (λ n. n == 0) self.now.kept.counters)) }
+        ensures { result ≡ (((length self.now.kept.features == 0) &&
+            (length self.now.kept.stored == 0)) &&
+            ((self.now.kept.opening == 0) && list_all (λ n. n == 0) self.now.kept.counters)) }
     {
         (self.count() == 0 && self.stored.list().is_empty())
             && (self.opening == 0 && are_zero(self.counters.items()))
@@ -114,7 +121,8 @@ impl Features {
     // Takes the memory for parts.
     fn reserve_rows(&mut self, parts: &List<Part>) -> Mem<()>
         ensures reserved { OnOk result (IsReserved (Rows parts.now) self.new.room) }
-        ensures others { (other : _) → IsReserved other self.old.room → IsReserved other self.new.room }
+        ensures others { (other : _) → IsReserved other self.old.room
+            → IsReserved other self.new.room }
         ensures kept { self.new.kept ≡ self.old.kept }
         ensures schema { self.new.schema ≡ self.old.schema }
     {
@@ -129,7 +137,8 @@ impl Features {
     // Takes the memory for so many stored queries.
     fn reserve_stored(&mut self, queries: &List<StoredQuery>) -> Mem<()>
         ensures reserved { OnOk result (IsReserved (Created queries.now) self.new.room) }
-        ensures others { (other : _) → IsReserved other self.old.room → IsReserved other self.new.room }
+        ensures others { (other : _) → IsReserved other self.old.room
+            → IsReserved other self.new.room }
         ensures kept { self.new.kept ≡ self.old.kept }
         ensures schema { self.new.schema ≡ self.old.schema }
     {
@@ -140,7 +149,8 @@ impl Features {
     /// there would be more features than 64 bits count.
     pub fn reserve(&mut self, change: &Change) -> Mem<()>
         ensures reserved { OnOk result (IsReserved change.now self.new.room) }
-        ensures others { (other : _) → IsReserved other self.old.room → IsReserved other self.new.room }
+        ensures others { (other : _) → IsReserved other self.old.room
+            → IsReserved other self.new.room }
         ensures kept { self.new.kept ≡ self.old.kept }
         ensures schema { self.new.schema ≡ self.old.schema }
     {

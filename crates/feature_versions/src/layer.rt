@@ -39,7 +39,8 @@ fn all_boxes(alloc: Global, rows: &[Row]) -> Mem<List<Box2>>
 // Whether rows have a feature with the identifier and the boxes of another, so that the grid may stay as it is.
 fn is_placed(rows: &[Row], feature: &Feature) -> bool
     requires { AreRows feature.now.id.kind rows.now }
-    ensures same { IsTrue result → HasSameBoxes (feature_at feature.now.id (live rows.now)) feature.now }
+    ensures same { IsTrue result → HasSameBoxes (feature_at feature.now.id (live rows.now))
+        feature.now }
     ensures boxed { IsTrue result → AreBoxed feature.now }
 {
     match feature_in(rows, feature.id) {
@@ -68,7 +69,12 @@ impl Model for Layer {
 
     ghost Value = { Layered };
 
-    ghost view = { λ l. record { kind = l.kind; features = live l.rows.items; rows = vec_capacity l.rows - vec_len l.rows; places = l.grid.room } };
+    ghost view = { λ l. record {
+      kind = l.kind;
+      features = live l.rows.items;
+      rows = vec_capacity l.rows - vec_len l.rows;
+      places = l.grid.room;
+    } };
 
     ghost invariant = { λ l. IsLayerFrom l.first l.kind l.rows.items l.count l.grid };
 }
@@ -123,7 +129,8 @@ impl Layer {
         ensures same { IsAlike self.old self.new }
         ensures roomier { IsRoomier self.old self.new }
         ensures rows { OnOk result (more ≤ self.new.rows) }
-        ensures places { OnOk result ((place : Place) → sum_by (taking place) boxes.now ≤ room_at self.new.places place) }
+        ensures places { OnOk result ((place : Place)
+            → sum_by (taking place) boxes.now ≤ room_at self.new.places place) }
     {
         self.rows.reserve(more)?;
         self.grid.reserve(boxes)
@@ -137,7 +144,8 @@ impl Layer {
         ensures kind { self.new.kind ≡ self.old.kind }
         ensures features { self.new.features ≡ laid self.old.features feature.id (Some feature) }
         ensures rows { self.old.rows ≤ self.new.rows + 1 }
-        ensures places { (place : Place) → room_at self.old.places place ≤ room_at self.new.places place + taken_by place feature }
+        ensures places { (place : Place) → room_at self.old.places place ≤ room_at self.new.places
+            place + taken_by place feature }
     {
         if is_placed(self.rows.as_slice(), &feature) {
             let (_, place) = put(&mut self.rows, feature);
@@ -184,13 +192,17 @@ impl Layer {
     // Puts a copy of the feature of a row behind all others, where it has one. There is room for it.
     fn put_copy(&mut self, alloc: Global, row: &Row) -> Mem<()>
         requires own { IsOwn self.old.kind row.now }
-        requires last { All (λ f. is_before f.id (record { kind = self.old.kind; number = row.now.number }) ≡ true) self.old.features }
+        requires last { All (λ f. is_before f.id
+            (record { kind = self.old.kind; number = row.now.number }) ≡ true) self.old.features }
         requires rows { length (live_in row.now) ≤ self.old.rows }
-        requires places { (place : Place) → sum_by (taken_by place) (live_in row.now) ≤ room_at self.old.places place }
+        requires places { (place : Place) → sum_by (taken_by place) (live_in row.now) ≤ room_at
+            self.old.places place }
         ensures kind { self.new.kind ≡ self.old.kind }
         ensures features { OnOk result (self.new.features ≡ self.old.features ++ live_in row.now) }
         ensures rows { OnOk result (self.old.rows ≤ self.new.rows + length (live_in row.now)) }
-        ensures places { OnOk result ((place : Place) → room_at self.old.places place ≤ room_at self.new.places place + sum_by (taken_by place) (live_in row.now)) }
+        ensures places { OnOk result ((place : Place)
+            → room_at self.old.places place ≤ room_at self.new.places place + sum_by
+            (taken_by place) (live_in row.now)) }
     {
         if let Some(feature) = &row.feature {
             self.put(feature.copy(alloc)?);
@@ -213,9 +225,11 @@ impl Layer {
 
     /// The features with a box near another by the cells of the grid.
     pub(crate) fn near(&self, alloc: Global, area: &Box2) -> Mem<List<Rid>>
-        ensures whole { IfOk result (λ ids. HasAllNear self.now.kind area.now self.now.features ids) }
+        ensures whole { IfOk result (λ ids. HasAllNear self.now.kind area.now self.now.features
+            ids) }
         ensures once { IfOk result (λ ids. IsOnce ids) }
-        ensures few { IfOk result (λ ids. length ids ≤ most_near self.now.features self.now.kind area.now) }
+        ensures few { IfOk result (λ ids. length ids ≤ most_near self.now.features self.now.kind
+            area.now) }
     {
         let _low = area.low;
         self.grid.near(alloc, area)

@@ -1,6 +1,6 @@
 //! The features of all types: each type's at its place.
 
-ghost use Rattle.std.specs.Prelude.{◌≡◌, ◌<◌, ◌≤◌, [], ◌∷◌, Some, IfOk, IfSome, length, drop, slice_get};
+ghost use Rattle.std.specs.Prelude.{◌≡◌, ◌<◌, ◌≤◌, [], ◌∷◌, Some, IfOk, length, drop, slice_get};
 ghost use Rattle.std.specs.Option.{option_copied};
 ghost use Rattle.fes_filter.specs.View.{feature_at, next_after, HasAllNear, IsOnce};
 ghost use Rattle.wfs_model.specs.declared.change.Part.TheVariants.{Put, Remove};
@@ -123,7 +123,8 @@ pub(crate) fn near(layers: &[Layer], alloc: Global, kind: u32, area: &Box2) -> M
     requires { AreTyped layers.now }
     ensures whole { IfOk result (λ ids. HasAllNear kind area.now (features_of layers.now) ids) }
     ensures once { IfOk result (λ ids. IsOnce ids) }
-    ensures few { IfOk result (λ ids. length ids ≤ most_near (features_of layers.now) kind area.now) }
+    ensures few { IfOk result (λ ids. length ids ≤ most_near (features_of layers.now) kind
+        area.now) }
 {
     match layers.get(kind as usize) {
         None => Ok(List::of(Vec::new(alloc))),

@@ -45,7 +45,8 @@ fn play(layers: &mut Vec<Layer>, counters: &mut [u64], part: Part)
     requires typed { AreTyped layers.old.items }
     requires within { IsWithin (length layers.old.items) part }
     requires room { HasRooms (put_in part) layers.old.items }
-    ensures played { (kept : Durable) → with_rows kept (features_of layers.new.items) counters.new ≡ part_played (with_rows kept (features_of layers.old.items) counters.old) part }
+    ensures played { (kept : Durable) → with_rows kept (features_of layers.new.items) counters.new
+        ≡ part_played (with_rows kept (features_of layers.old.items) counters.old) part }
     ensures types { Plays part layers.old.items layers.new.items }
 {
     raise(counters, &part);
@@ -57,7 +58,9 @@ fn play_all(layers: &mut Vec<Layer>, counters: &mut [u64], parts: Vec<Part>)
     requires typed { AreTyped layers.old.items }
     requires within { All (IsWithin (length layers.old.items)) parts.items }
     requires room { HasRooms (all_put parts.items) layers.old.items }
-    ensures played { (kept : Durable) → with_rows kept (features_of layers.new.items) counters.new ≡ fold part_played (with_rows kept (features_of layers.old.items) counters.old) parts.items }
+    ensures played { (kept : Durable) → with_rows kept (features_of layers.new.items) counters.new
+        ≡ fold part_played (with_rows kept (features_of layers.old.items) counters.old)
+        parts.items }
     ensures typed { AreTyped layers.new.items }
     ensures length { length layers.new.items ≡ length layers.old.items }
 {
@@ -71,7 +74,8 @@ fn play_listed(alloc: Global, layers: &mut Vec<Layer>, counters: &mut List<u64>,
     requires typed { AreTyped layers.old.items }
     requires within { All (IsWithin (length layers.old.items)) parts }
     requires room { HasRooms (all_put parts) layers.old.items }
-    ensures played { (kept : Durable) → with_rows kept (features_of layers.new.items) counters.new ≡ fold part_played (with_rows kept (features_of layers.old.items) counters.old) parts }
+    ensures played { (kept : Durable) → with_rows kept (features_of layers.new.items) counters.new
+        ≡ fold part_played (with_rows kept (features_of layers.old.items) counters.old) parts }
     ensures typed { AreTyped layers.new.items }
     ensures length { length layers.new.items ≡ length layers.old.items }
 {
@@ -90,7 +94,8 @@ pub(crate) fn play_rows(
     requires typed { AreTyped layers.old.items }
     requires within { All (IsWithin (length layers.old.items)) parts }
     requires room { HasRooms (all_put parts) layers.old.items }
-    ensures played { (kept : Durable) → with_rows kept (features_of layers.new.items) counters.new ≡ fold part_played (with_rows kept (features_of layers.old.items) counters.old) parts }
+    ensures played { (kept : Durable) → with_rows kept (features_of layers.new.items) counters.new
+        ≡ fold part_played (with_rows kept (features_of layers.old.items) counters.old) parts }
     ensures typed { AreTyped layers.new.items }
     ensures length { length layers.new.items ≡ length layers.old.items }
 {

@@ -55,7 +55,8 @@ fn add_one(alloc: Global, need: &mut Need, feature: &Feature) -> Mem<()>
 
 // A feature more is to come to its type.
 fn add(alloc: Global, needs: &mut Vec<Need>, feature: &Feature) -> Mem<()>
-    ensures needs { OnOk result ((features : List TheFeature) → AreNeeds features needs.old.items → AreNeeds (features ++ feature.now ∷ []) needs.new.items) }
+    ensures needs { OnOk result ((features : List TheFeature) → AreNeeds features needs.old.items
+        → AreNeeds (features ++ feature.now ∷ []) needs.new.items) }
     ensures length { OnOk result (length needs.new.items ≡ length needs.old.items) }
 {
     let kind = feature.id.kind as usize;
@@ -67,7 +68,8 @@ fn add(alloc: Global, needs: &mut Vec<Need>, feature: &Feature) -> Mem<()>
 
 // What a part needs is added.
 fn add_part(alloc: Global, needs: &mut Vec<Need>, part: &Part) -> Mem<()>
-    ensures needs { OnOk result ((features : List TheFeature) → AreNeeds features needs.old.items → AreNeeds (features ++ put_in part.now) needs.new.items) }
+    ensures needs { OnOk result ((features : List TheFeature) → AreNeeds features needs.old.items
+        → AreNeeds (features ++ put_in part.now) needs.new.items) }
     ensures length { OnOk result (length needs.new.items ≡ length needs.old.items) }
 {
     match part {

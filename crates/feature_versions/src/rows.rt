@@ -29,7 +29,8 @@ fn expected_place(rows: &[Row], number: u64) -> usize {
 // Whether all rows have lesser numbers, since the last one has.
 fn are_lesser(rows: &[Row], number: u64) -> bool
     requires { IsRising rows.now }
-    ensures { IsTrue result → AllWithin (λ row. nat_lt row.number number ≡ true) rows.now 0 (length rows.now) }
+    ensures { IsTrue result → AllWithin (λ row. nat_lt row.number number ≡ true) rows.now 0
+        (length rows.now) }
 {
     match rows.last() {
         None => true,
@@ -42,7 +43,8 @@ fn place_of(rows: &[Row], number: u64) -> usize
     requires { IsRising rows.now }
     ensures bound { result ≤ length rows.now }
     ensures low { AllWithin (λ row. nat_lt row.number number ≡ true) rows.now 0 result }
-    ensures high { AllWithin (λ row. nat_lt row.number number ≡ false) rows.now result (length rows.now) }
+    ensures high { AllWithin (λ row. nat_lt row.number number ≡ false) rows.now result
+        (length rows.now) }
 {
     if are_lesser(rows, number) {
         return rows.len();
@@ -103,7 +105,8 @@ pub(crate) fn feature_from(rows: &[Row], from: usize) -> (Option<&Feature>, usiz
 // Whether the rows behind an identifier begin at a place, since the row before it has the identifier's number.
 fn is_behind(rows: &[Row], place: usize, id: Rid) -> bool
     requires { AreRows id.kind rows.now }
-    ensures { IsTrue result → slice_get (live (drop place rows.now)) 0 ≡ next_after (Some id) (live rows.now) }
+    ensures { IsTrue result → slice_get (live (drop place rows.now)) 0
+        ≡ next_after (Some id) (live rows.now) }
 {
     if place == 0 {
         return false;

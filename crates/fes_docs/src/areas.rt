@@ -40,7 +40,8 @@ fn corner_tree(alloc: Global, local: &str, p: Pos) -> Mem<Element>
 }
 
 fn corner_trees(alloc: Global, low: Pos, high: Pos) -> Mem<Vec<Element>>
-    ensures { IfOk result (λ v. v.items ≡ gml_leaf (codes "lowerCorner") (position_text low) ∷ gml_leaf (codes "upperCorner") (position_text high) ∷ []) }
+    ensures { IfOk result (λ v. v.items ≡ gml_leaf (codes "lowerCorner") (position_text low)
+        ∷ gml_leaf (codes "upperCorner") (position_text high) ∷ []) }
 {
     let first = corner_tree(alloc, "lowerCorner", low)?;
     let second = corner_tree(alloc, "upperCorner", high)?;

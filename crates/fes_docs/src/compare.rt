@@ -117,7 +117,8 @@ pub(crate) fn compare_of(
     by: By,
     element: &Element,
 ) -> Result<Filter, FilterDocFault>
-    ensures { GivesBut OutOfMemory (λ x. x) result (compare_of (option_copied parameters.entry) (option_copied of_type.entry) by element.now) }
+    ensures { GivesBut OutOfMemory (λ x. x) result
+        (compare_of (option_copied parameters.entry) (option_copied of_type.entry) by element.now) }
 {
     let fold = fold_of(alloc, by, element)?;
     action_of(alloc, element)?;
@@ -145,7 +146,9 @@ fn bound_at(
     name: &Text,
     element: &Element,
 ) -> Result<Expr, FilterDocFault>
-    ensures { GivesBut OutOfMemory (λ x. x) result (bound_at local.now (option_copied parameters.entry) (option_copied of_type.entry) kind name.now element.now) }
+    ensures { GivesBut OutOfMemory (λ x. x) result
+        (bound_at local.now (option_copied parameters.entry) (option_copied of_type.entry) kind
+        name.now element.now) }
 {
     named(alloc, element, local)?;
     no_others(alloc, element, &[])?;
@@ -165,7 +168,9 @@ fn bounds_of(
     whole: &Element,
     elements: &[Element],
 ) -> Result<(Expr, Expr), FilterDocFault>
-    ensures { GivesBut OutOfMemory (λ x. x) result (bounds_of (option_copied parameters.entry) (option_copied of_type.entry) kind name.now whole.now elements.now) }
+    ensures { GivesBut OutOfMemory (λ x. x) result
+        (bounds_of (option_copied parameters.entry) (option_copied of_type.entry) kind name.now
+        whole.now elements.now) }
 {
     let (lower, rest) = first_in(alloc, whole, elements)?;
     let low = bound_at(
@@ -198,7 +203,8 @@ pub(crate) fn between_of(
     of_type: Option<&FeatureType>,
     element: &Element,
 ) -> Result<Filter, FilterDocFault>
-    ensures { GivesBut OutOfMemory (λ x. x) result (between_of (option_copied parameters.entry) (option_copied of_type.entry) element.now) }
+    ensures { GivesBut OutOfMemory (λ x. x) result
+        (between_of (option_copied parameters.entry) (option_copied of_type.entry) element.now) }
 {
     only_case(alloc, element)?;
     let (first, rest) = first_in(alloc, element, element.children.items())?;
@@ -221,7 +227,8 @@ pub(crate) fn null_of(
     of_type: Option<&FeatureType>,
     element: &Element,
 ) -> Result<Filter, FilterDocFault>
-    ensures { GivesBut OutOfMemory (λ x. x) result (null_of (option_copied of_type.entry) element.now) }
+    ensures { GivesBut OutOfMemory (λ x. x) result
+        (null_of (option_copied of_type.entry) element.now) }
 {
     only_case(alloc, element)?;
     let (first, rest) = first_in(alloc, element, element.children.items())?;

@@ -40,7 +40,8 @@ pub(crate) fn no_others(
     element: &Element,
     listed: &[&str],
 ) -> Result<(), FilterDocFault>
-    ensures { GivesBut OutOfMemory (λ x. x) result (no_others (map (λ n. n.now) listed.now) element.now) }
+    ensures { GivesBut OutOfMemory (λ x. x) result
+        (no_others (map (λ n. n.now) listed.now) element.now) }
 {
     match first_other(listed, element.attributes.items()) {
         None => Ok(()),
@@ -100,7 +101,8 @@ pub(crate) fn first_in<'a>(
     whole: &Element,
     elements: &'a [Element],
 ) -> Result<(&'a Element, &'a [Element]), FilterDocFault>
-    ensures { GivesBut OutOfMemory (λ x. (x.0.now, x.1.now)) result (first_in whole.now elements.now) }
+    ensures { GivesBut OutOfMemory (λ x. (x.0.now, x.1.now)) result
+        (first_in whole.now elements.now) }
 {
     match elements {
         [] => Err(missing(alloc, whole)),

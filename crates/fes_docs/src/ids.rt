@@ -34,7 +34,9 @@ fn id_in(
     element: &Element,
     value: Option<&Text>,
 ) -> Result<IdRef, FilterDocFault>
-    ensures { GivesBut OutOfMemory (λ x. x) result (id_in (option_copied parameters.entry) schema.now element.now (option_copied value.entry)) }
+    ensures { GivesBut OutOfMemory (λ x. x) result
+        (id_in (option_copied parameters.entry) schema.now element.now
+        (option_copied value.entry)) }
 {
     match value {
         None => Err(missing(alloc, element)),
@@ -53,7 +55,8 @@ pub(crate) fn id_at(
     schema: &Schema,
     element: &Element,
 ) -> Result<IdRef, FilterDocFault>
-    ensures { GivesBut OutOfMemory (λ x. x) result (id_at (option_copied parameters.entry) schema.now element.now) }
+    ensures { GivesBut OutOfMemory (λ x. x) result
+        (id_at (option_copied parameters.entry) schema.now element.now) }
 {
     let id = id_in(alloc, parameters, schema, element, value_of(element, "rid"))?;
     no_others(alloc, element, &["rid"])?;
@@ -69,7 +72,8 @@ fn add_id(
     found: &mut Vec<IdRef>,
     element: &Element,
 ) -> Result<(), FilterDocFault>
-    ensures { GivesBut OutOfMemory (λ _. found.new.items) result (next_id (option_copied parameters.entry) schema.now found.old.items element.now) }
+    ensures { GivesBut OutOfMemory (λ _. found.new.items) result
+        (next_id (option_copied parameters.entry) schema.now found.old.items element.now) }
 {
     named(alloc, element, "ResourceId")?;
     found.push(id_at(alloc, parameters, schema, element)?)?;
@@ -83,7 +87,8 @@ pub(crate) fn ids_of(
     schema: &Schema,
     elements: &[Element],
 ) -> Result<Vec<IdRef>, FilterDocFault>
-    ensures { GivesBut OutOfMemory (λ v. v.items) result (each (next_id (option_copied parameters.entry) schema.now) [] elements.now) }
+    ensures { GivesBut OutOfMemory (λ v. v.items) result
+        (each (next_id (option_copied parameters.entry) schema.now) [] elements.now) }
 {
     let mut found = Vec::new(alloc);
     for element in elements {

@@ -38,7 +38,8 @@ fn bad_marks(alloc: Global) -> FilterDocFault
 
 // The first character of a text, and what stands behind it.
 fn split_first(text: &str) -> Option<(char, &str)>
-    ensures { MatchOption result (chars text.now ≡ []) (λ (c, rest). chars text.now ≡ c ∷ chars rest.now) }
+    ensures { MatchOption result (chars text.now ≡ [])
+        (λ (c, rest). chars text.now ≡ c ∷ chars rest.now) }
 {
     let mut chars = text.chars();
     match chars.next() {
@@ -61,7 +62,8 @@ fn one_of(alloc: Global, text: &str) -> Result<char, FilterDocFault>
 }
 
 fn mark_in(alloc: Global, element: &Element, value: Option<&Text>) -> Result<char, FilterDocFault>
-    ensures { GivesBut OutOfMemory (λ x. x) result (mark_in element.now (option_copied value.entry)) }
+    ensures { GivesBut OutOfMemory (λ x. x) result
+        (mark_in element.now (option_copied value.entry)) }
 {
     match value {
         None => Err(missing(alloc, element)),
@@ -116,7 +118,8 @@ fn part_of(marks: Marks, c: char) -> LikePart
 
 // Adds what a character stands for. It answers whether it is an escape.
 fn next_part(marks: Marks, found: &mut Vec<LikePart>, is_escaped: bool, c: char) -> Mem<bool>
-    ensures { IfOk result (λ escaped. (found.new.items, escaped) ≡ next_part marks (found.old.items, is_escaped) c) }
+    ensures { IfOk result (λ escaped. (found.new.items, escaped)
+        ≡ next_part marks (found.old.items, is_escaped) c) }
 {
     if is_escaped {
         found.push(LikePart::Exactly(c))?;
@@ -156,7 +159,8 @@ fn pattern_behind(
     whole: &Element,
     elements: &[Element],
 ) -> Result<Filter, FilterDocFault>
-    ensures { GivesBut OutOfMemory (λ x. x) result (pattern_behind marks property whole.now elements.now) }
+    ensures { GivesBut OutOfMemory (λ x. x) result
+        (pattern_behind marks property whole.now elements.now) }
 {
     let (first, rest) = first_in(alloc, whole, elements)?;
     named(alloc, first, "Literal")?;
@@ -172,7 +176,8 @@ pub(crate) fn like_of(
     of_type: Option<&FeatureType>,
     element: &Element,
 ) -> Result<Filter, FilterDocFault>
-    ensures { GivesBut OutOfMemory (λ x. x) result (like_of (option_copied of_type.entry) element.now) }
+    ensures { GivesBut OutOfMemory (λ x. x) result
+        (like_of (option_copied of_type.entry) element.now) }
 {
     case_of(alloc, element)?;
     let marks = marks_of(alloc, element)?;

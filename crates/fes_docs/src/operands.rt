@@ -100,7 +100,8 @@ pub(crate) fn side(
     kind: Option<u32>,
     expr: &Expr,
 ) -> Mem<Element>
-    ensures { IfOk result (λ e. e ≡ side (option_copied parameters.entry) schema.now kind expr.now) }
+    ensures { IfOk result (λ e. e ≡ side (option_copied parameters.entry) schema.now kind
+        expr.now) }
 {
     match expr {
         Expr::Property(property) => reference(alloc, schema, kind, *property),
@@ -121,7 +122,8 @@ fn type_name(schema: &Schema, kind: u32) -> &str
 }
 
 fn rid_text(alloc: Global, schema: &Schema, id: Rid) -> Mem<Text>
-    ensures { IfOk result (λ t. t ≡ joined (type_name (slice_get schema.now.types id.kind) ∷ codes "." ∷ decimal id.number ∷ [])) }
+    ensures { IfOk result (λ t. t ≡ joined (type_name (slice_get schema.now.types id.kind)
+        ∷ codes "." ∷ decimal id.number ∷ [])) }
 {
     let mut buffer = Buffer::new();
     let number = buffer.format(id.number);

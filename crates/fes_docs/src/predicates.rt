@@ -49,7 +49,8 @@ pub(crate) fn compare_tree(
     right: &Expr,
     fold: bool,
 ) -> Mem<Element>
-    ensures { IfOk result (λ e. e ≡ compare_tree (option_copied parameters.entry) schema.now kind by left.now right.now fold) }
+    ensures { IfOk result (λ e. e ≡ compare_tree (option_copied parameters.entry) schema.now kind by
+        left.now right.now fold) }
 {
     let attributes = case_attributes(alloc, fold)?;
     let first = side(alloc, parameters, schema, kind, left)?;
@@ -80,7 +81,8 @@ fn add_part(line: &mut String, part: LikePart) -> Mem<()>
 }
 
 fn add_parts(line: &mut String, parts: &[LikePart]) -> Mem<()>
-    ensures { OnOk result (string_bytes line.new ≡ string_bytes line.old ++ flat_map part_text parts.now) }
+    ensures { OnOk result (string_bytes line.new
+        ≡ string_bytes line.old ++ flat_map part_text parts.now) }
 {
     for part in parts {
         add_part(line, *part)?;
@@ -107,7 +109,8 @@ fn mark_attributes(alloc: Global) -> Mem<Vec<Attribute>>
 }
 
 fn pattern_tree(alloc: Global, property: Element, literal: Element) -> Mem<Element>
-    ensures { IfOk result (λ e. e ≡ element (codes "PropertyIsLike") mark_attributes (property ∷ literal ∷ []) []) }
+    ensures { IfOk result (λ e. e ≡ element (codes "PropertyIsLike") mark_attributes
+        (property ∷ literal ∷ []) []) }
 {
     let attributes = mark_attributes(alloc)?;
     let children = both(alloc, property, literal)?;
@@ -141,14 +144,16 @@ fn bound_tree(
     kind: Option<u32>,
     bound: &Expr,
 ) -> Mem<Element>
-    ensures { IfOk result (λ e. e ≡ bound_tree local.now (option_copied parameters.entry) schema.now kind bound.now) }
+    ensures { IfOk result (λ e. e ≡ bound_tree local.now (option_copied parameters.entry) schema.now
+        kind bound.now) }
 {
     let child = side(alloc, parameters, schema, kind, bound)?;
     parent(alloc, local, alone(alloc, child)?)
 }
 
 fn range_tree(alloc: Global, property: Element, lower: Element, upper: Element) -> Mem<Element>
-    ensures { IfOk result (λ e. e ≡ parent (codes "PropertyIsBetween") (property ∷ lower ∷ upper ∷ [])) }
+    ensures { IfOk result (λ e. e ≡ parent (codes "PropertyIsBetween")
+        (property ∷ lower ∷ upper ∷ [])) }
 {
     let children = in_order(alloc, property, lower, upper)?;
     parent(alloc, "PropertyIsBetween", children)
@@ -163,7 +168,8 @@ pub(crate) fn between_tree(
     low: &Expr,
     high: &Expr,
 ) -> Mem<Element>
-    ensures { IfOk result (λ e. e ≡ between_tree (option_copied parameters.entry) schema.now kind property low.now high.now) }
+    ensures { IfOk result (λ e. e ≡ between_tree (option_copied parameters.entry) schema.now kind
+        property low.now high.now) }
 {
     let named = reference(alloc, schema, kind, property)?;
     let lower = bound_tree(alloc, "LowerBoundary", parameters, schema, kind, low)?;

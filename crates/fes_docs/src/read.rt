@@ -47,7 +47,8 @@ fn only_id(
     schema: &Schema,
     element: &Element,
 ) -> Result<Filter, FilterDocFault>
-    ensures { GivesBut OutOfMemory (λ x. x) result (only_id (option_copied parameters.entry) schema.now element.now) }
+    ensures { GivesBut OutOfMemory (λ x. x) result
+        (only_id (option_copied parameters.entry) schema.now element.now) }
 {
     let id = id_at(alloc, parameters, schema, element)?;
     Ok(Filter::Ids(only(alloc, id)?))
@@ -63,7 +64,8 @@ fn predicate_of(
     element: &Element,
     predicate: Predicate,
 ) -> Result<Filter, FilterDocFault>
-    ensures { GivesBut OutOfMemory (λ x. x) result (predicate_of (option_copied parameters.entry) schema.now kind element.now predicate) }
+    ensures { GivesBut OutOfMemory (λ x. x) result
+        (predicate_of (option_copied parameters.entry) schema.now kind element.now predicate) }
 {
     let of_type = type_in(schema, kind);
     match predicate {
@@ -94,7 +96,9 @@ fn operators_of(
     left: u32,
     elements: &List<Element>,
 ) -> Result<(Vec<Filter>, u32), FilterDocFault>
-    ensures { GivesBut OutOfMemory (λ x. (x.0.items, x.1)) result (each next_operator ([], left) (map (operator_of (option_copied parameters.entry) schema.now kind) elements.now)) }
+    ensures { GivesBut OutOfMemory (λ x. (x.0.items, x.1)) result
+        (each next_operator ([], left)
+        (map (operator_of (option_copied parameters.entry) schema.now kind) elements.now)) }
 {
     let mut found = Vec::new(alloc);
     let mut left = left;
@@ -118,7 +122,9 @@ fn several(
     name: &Text,
     elements: &List<Element>,
 ) -> Result<(List<Filter>, u32), FilterDocFault>
-    ensures { GivesBut OutOfMemory (λ x. x) result (several name.now (map (operator_of (option_copied parameters.entry) schema.now kind) elements.now) left) }
+    ensures { GivesBut OutOfMemory (λ x. x) result
+        (several name.now (map (operator_of (option_copied parameters.entry) schema.now kind)
+        elements.now) left) }
 {
     let (found, left) = operators_of(alloc, parameters, schema, kind, left, elements)?;
     if found.len() < 2 {
@@ -138,7 +144,9 @@ fn one(
     name: &Text,
     elements: &List<Element>,
 ) -> Result<(Filter, u32), FilterDocFault>
-    ensures { GivesBut OutOfMemory (λ x. x) result (one name.now elements.now (map (operator_of (option_copied parameters.entry) schema.now kind) elements.now) left) }
+    ensures { GivesBut OutOfMemory (λ x. x) result
+        (one name.now elements.now (map
+        (operator_of (option_copied parameters.entry) schema.now kind) elements.now) left) }
 {
     match elements.items() {
         [] => Err(misplaced(alloc, name.as_str())),
@@ -160,7 +168,8 @@ fn operator_of(
     left: u32,
     element: &Element,
 ) -> Result<(Filter, u32), FilterDocFault>
-    ensures { GivesBut OutOfMemory (λ x. x) result (operator_of (option_copied parameters.entry) schema.now kind element.now left) }
+    ensures { GivesBut OutOfMemory (λ x. x) result
+        (operator_of (option_copied parameters.entry) schema.now kind element.now left) }
 {
     let operator = operator_in(alloc, &element.name)?;
     let left = counted(alloc, left)?;
@@ -199,7 +208,8 @@ fn content_from(
     first: &Element,
     rest: &[Element],
 ) -> Result<Filter, FilterDocFault>
-    ensures { GivesBut OutOfMemory (λ x. x) result (content_from (option_copied parameters.entry) schema.now kind first.now rest.now) }
+    ensures { GivesBut OutOfMemory (λ x. x) result
+        (content_from (option_copied parameters.entry) schema.now kind first.now rest.now) }
 {
     let (filter, _) = operator_of(alloc, parameters, schema, kind, MOST_OPERATORS, first)?;
     and_no_more(alloc, filter, rest)
@@ -211,7 +221,8 @@ fn ids_in(
     schema: &Schema,
     elements: &[Element],
 ) -> Result<Filter, FilterDocFault>
-    ensures { GivesBut OutOfMemory (λ x. x) result (ids_in (option_copied parameters.entry) schema.now elements.now) }
+    ensures { GivesBut OutOfMemory (λ x. x) result
+        (ids_in (option_copied parameters.entry) schema.now elements.now) }
 {
     let ids = ids_of(alloc, parameters, schema, elements)?;
     Ok(Filter::Ids(List::of(ids)))
@@ -225,7 +236,8 @@ fn content_of(
     whole: &Element,
     elements: &[Element],
 ) -> Result<Filter, FilterDocFault>
-    ensures { GivesBut OutOfMemory (λ x. x) result (content_of (option_copied parameters.entry) schema.now kind whole.now elements.now) }
+    ensures { GivesBut OutOfMemory (λ x. x) result
+        (content_of (option_copied parameters.entry) schema.now kind whole.now elements.now) }
 {
     let (first, rest) = first_in(alloc, whole, elements)?;
     if is_fes(first, "ResourceId") {
@@ -242,7 +254,8 @@ fn filter_of(
     kind: Option<u32>,
     element: &Element,
 ) -> Result<Filter, FilterDocFault>
-    ensures { GivesBut OutOfMemory (λ x. x) result (filter_of (option_copied parameters.entry) schema.now kind element.now) }
+    ensures { GivesBut OutOfMemory (λ x. x) result
+        (filter_of (option_copied parameters.entry) schema.now kind element.now) }
 {
     if !is_fes(element, "Filter") {
         return Err(missing(alloc, element));
@@ -311,7 +324,8 @@ pub fn read_filter_in(
     parameters: &List<Text>,
     schema: &Schema,
 ) -> Result<Filter, FilterDocFault>
-    ensures { GivesBut OutOfMemory (λ x. x) result (filter_of (Some parameters.now) schema.now kind element.now) }
+    ensures { GivesBut OutOfMemory (λ x. x) result
+        (filter_of (Some parameters.now) schema.now kind element.now) }
 {
     filter_of(alloc, Some(parameters), schema, kind, element)
 }

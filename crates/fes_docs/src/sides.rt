@@ -24,7 +24,8 @@ pub(crate) fn property_at(
     of_type: Option<&FeatureType>,
     element: &Element,
 ) -> Result<(u32, ValueKind), FilterDocFault>
-    ensures { GivesBut OutOfMemory (λ x. x) result (property_at (option_copied of_type.entry) element.now) }
+    ensures { GivesBut OutOfMemory (λ x. x) result
+        (property_at (option_copied of_type.entry) element.now) }
 {
     plain(alloc, element)?;
     match property_in(of_type, element.text.as_str()) {
@@ -52,7 +53,8 @@ pub(crate) fn comparable_at(
     by: By,
     element: &Element,
 ) -> Result<(u32, ValueKind), FilterDocFault>
-    ensures { GivesBut OutOfMemory (λ x. x) result (comparable_at (option_copied of_type.entry) by element.now) }
+    ensures { GivesBut OutOfMemory (λ x. x) result
+        (comparable_at (option_copied of_type.entry) by element.now) }
 {
     let (property, kind) = property_at(alloc, of_type, element)?;
     suited(alloc, is_comparable(by, kind), element)?;
@@ -88,7 +90,8 @@ fn literal_at(
     parameters: Option<&List<Text>>,
     element: &Element,
 ) -> Result<Option<u32>, FilterDocFault>
-    ensures { GivesBut OutOfMemory (λ x. x) result (literal_at (option_copied parameters.entry) element.now) }
+    ensures { GivesBut OutOfMemory (λ x. x) result
+        (literal_at (option_copied parameters.entry) element.now) }
 {
     plain(alloc, element)?;
     place_of(alloc, parameters, element.text.as_str())
@@ -104,7 +107,9 @@ pub(crate) fn beside(
     name: &Text,
     element: &Element,
 ) -> Result<Expr, FilterDocFault>
-    ensures { GivesBut OutOfMemory (λ x. x) result (beside (option_copied parameters.entry) (option_copied of_type.entry) kind name.now element.now) }
+    ensures { GivesBut OutOfMemory (λ x. x) result
+        (beside (option_copied parameters.entry) (option_copied of_type.entry) kind name.now
+        element.now) }
 {
     if is_fes(element, "ValueReference") {
         let (property, other) = property_at(alloc, of_type, element)?;
@@ -131,7 +136,9 @@ fn right_of(
     property: (u32, ValueKind),
     elements: &[Element],
 ) -> Result<(Expr, Expr, ValueKind), FilterDocFault>
-    ensures { GivesBut OutOfMemory (λ x. x) result (right_of (option_copied parameters.entry) (option_copied of_type.entry) whole.now first.now property elements.now) }
+    ensures { GivesBut OutOfMemory (λ x. x) result
+        (right_of (option_copied parameters.entry) (option_copied of_type.entry) whole.now first.now
+        property elements.now) }
 {
     let (second, rest) = first_in(alloc, whole, elements)?;
     let (property, kind) = property;
@@ -150,7 +157,8 @@ fn left_of(
     place: Option<u32>,
     elements: &[Element],
 ) -> Result<(Expr, Expr, ValueKind), FilterDocFault>
-    ensures { GivesBut OutOfMemory (λ x. x) result (left_of (option_copied of_type.entry) by whole.now first.now place elements.now) }
+    ensures { GivesBut OutOfMemory (λ x. x) result
+        (left_of (option_copied of_type.entry) by whole.now first.now place elements.now) }
 {
     let (second, rest) = first_in(alloc, whole, elements)?;
     named(alloc, second, "ValueReference")?;
@@ -169,7 +177,9 @@ fn sides_from(
     first: &Element,
     rest: &[Element],
 ) -> Result<(Expr, Expr, ValueKind), FilterDocFault>
-    ensures { GivesBut OutOfMemory (λ x. x) result (sides_from (option_copied parameters.entry) (option_copied of_type.entry) by whole.now first.now rest.now) }
+    ensures { GivesBut OutOfMemory (λ x. x) result
+        (sides_from (option_copied parameters.entry) (option_copied of_type.entry) by whole.now
+        first.now rest.now) }
 {
     if is_fes(first, "ValueReference") {
         let property = comparable_at(alloc, of_type, by, first)?;
@@ -191,7 +201,8 @@ pub(crate) fn sides_of(
     by: By,
     element: &Element,
 ) -> Result<(Expr, Expr, ValueKind), FilterDocFault>
-    ensures { GivesBut OutOfMemory (λ x. x) result (sides_of (option_copied parameters.entry) (option_copied of_type.entry) by element.now) }
+    ensures { GivesBut OutOfMemory (λ x. x) result
+        (sides_of (option_copied parameters.entry) (option_copied of_type.entry) by element.now) }
 {
     let (first, rest) = first_in(alloc, element, element.children.items())?;
     sides_from(alloc, parameters, of_type, by, element, first, rest)

@@ -25,7 +25,8 @@ fn shape_at(
     of_type: Option<&FeatureType>,
     element: &Element,
 ) -> Result<u32, FilterDocFault>
-    ensures { GivesBut OutOfMemory (λ x. x) result (shape_at (option_copied of_type.entry) element.now) }
+    ensures { GivesBut OutOfMemory (λ x. x) result
+        (shape_at (option_copied of_type.entry) element.now) }
 {
     let (property, kind) = property_at(alloc, of_type, element)?;
     suited(alloc, is_shape(kind), element)?;
@@ -74,7 +75,8 @@ pub(crate) fn box_of(
     of_type: Option<&FeatureType>,
     element: &Element,
 ) -> Result<Filter, FilterDocFault>
-    ensures { GivesBut OutOfMemory (λ x. x) result (box_of srs.now (option_copied of_type.entry) element.now) }
+    ensures { GivesBut OutOfMemory (λ x. x) result
+        (box_of srs.now (option_copied of_type.entry) element.now) }
 {
     no_others(alloc, element, &[])?;
     let elements = element.children.items();
@@ -104,7 +106,8 @@ pub(crate) fn operands_of(
     of_type: Option<&FeatureType>,
     element: &Element,
 ) -> Result<(u32, Geometry), FilterDocFault>
-    ensures { GivesBut OutOfMemory (λ x. x) result (operands_of srs.now (option_copied of_type.entry) element.now) }
+    ensures { GivesBut OutOfMemory (λ x. x) result
+        (operands_of srs.now (option_copied of_type.entry) element.now) }
 {
     no_others(alloc, element, &[])?;
     let (first, rest) = first_in(alloc, element, element.children.items())?;

@@ -64,7 +64,8 @@ pub(crate) fn place_of(
     parameters: Option<&List<Text>>,
     text: &str,
 ) -> Result<Option<u32>, FilterDocFault>
-    ensures { GivesBut OutOfMemory (λ x. x) result (place_of (option_copied parameters.entry) text.now) }
+    ensures { GivesBut OutOfMemory (λ x. x) result
+        (place_of (option_copied parameters.entry) text.now) }
 {
     let Some(names) = parameters else {
         return Ok(None);

@@ -23,7 +23,8 @@ fn id_trees(
     schema: &Schema,
     ids: &[IdRef],
 ) -> Mem<Vec<Element>>
-    ensures { IfOk result (λ v. v.items ≡ map (id_tree (option_copied parameters.entry) schema.now) ids.now) }
+    ensures { IfOk result (λ v. v.items ≡ map (id_tree (option_copied parameters.entry) schema.now)
+        ids.now) }
 {
     let mut found = Vec::new(alloc);
     for id in ids {
@@ -60,7 +61,8 @@ fn part_trees(
     kind: Option<u32>,
     parts: &List<Filter>,
 ) -> Mem<Vec<Element>>
-    ensures { IfOk result (λ v. v.items ≡ map (operator_tree (option_copied parameters.entry) schema.now kind) parts.now) }
+    ensures { IfOk result (λ v. v.items ≡ map (operator_tree (option_copied parameters.entry)
+        schema.now kind) parts.now) }
 {
     let mut found = Vec::new(alloc);
     for part in parts.items() {
@@ -78,7 +80,8 @@ fn operator_tree(
     kind: Option<u32>,
     filter: &Filter,
 ) -> Mem<Element>
-    ensures { IfOk result (λ e. e ≡ operator_tree (option_copied parameters.entry) schema.now kind filter.now) }
+    ensures { IfOk result (λ e. e ≡ operator_tree (option_copied parameters.entry) schema.now kind
+        filter.now) }
 {
     match filter {
         Filter::Both(parts) => {
@@ -128,7 +131,9 @@ fn content_of(
     kind: Option<u32>,
     filter: &Filter,
 ) -> Mem<Vec<Element>>
-    ensures { IfOk result (λ v. v.items ≡ content_by (option_copied parameters.entry) schema.now (operator_tree (option_copied parameters.entry) schema.now kind filter.now) (out-Filter filter.now)) }
+    ensures { IfOk result (λ v. v.items ≡ content_by (option_copied parameters.entry) schema.now
+        (operator_tree (option_copied parameters.entry) schema.now kind filter.now)
+        (out-Filter filter.now)) }
 {
     if let Filter::Ids(ids) = filter {
         return id_trees(alloc, parameters, schema, ids.items());
@@ -145,7 +150,8 @@ fn tree_of(
     kind: Option<u32>,
     filter: &Filter,
 ) -> Mem<Element>
-    ensures { IfOk result (λ e. e ≡ filter_tree (option_copied parameters.entry) schema.now kind filter.now) }
+    ensures { IfOk result (λ e. e ≡ filter_tree (option_copied parameters.entry) schema.now kind
+        filter.now) }
 {
     let content = content_of(alloc, parameters, schema, kind, filter)?;
     parent(alloc, "Filter", content)

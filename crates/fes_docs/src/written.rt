@@ -23,7 +23,8 @@ pub(crate) fn add(line: &mut String, text: &str) -> Mem<()>
 
 #[tactic(auto, unfolding(wfs_ends::specs::Ends::joined))]
 fn add_three(line: &mut String, a: &str, b: &str, c: &str) -> Mem<()>
-    ensures { OnOk result (string_bytes line.new ≡ string_bytes line.old ++ joined (a.now ∷ b.now ∷ c.now ∷ [])) }
+    ensures { OnOk result (string_bytes line.new
+        ≡ string_bytes line.old ++ joined (a.now ∷ b.now ∷ c.now ∷ [])) }
 {
     add(line, a)?;
     add(line, b)?;

@@ -36,7 +36,8 @@ fn compared(
     right: &Expr,
     fold: bool,
 ) -> Result<(), FilterFault>
-    ensures { result ≡ compared (option_copied of_type.entry) by left.now right.now fold (subject left.now right.now) }
+    ensures { result ≡ compared (option_copied of_type.entry) by left.now right.now fold
+        (subject left.now right.now) }
 {
     let Some(property) = subject(left, right) else {
         return Err(FilterFault::Types);
@@ -186,7 +187,8 @@ fn check_parts(
     left: u32,
     parts: &List<Filter>,
 ) -> Result<u32, FilterFault>
-    ensures { result ≡ each counted left (Ok tt ∷ flat_map (λ part. part) (map (verdicts (option_copied of_type.entry)) parts.now)) }
+    ensures { result ≡ each counted left (Ok tt
+        ∷ flat_map (λ part. part) (map (verdicts (option_copied of_type.entry)) parts.now)) }
 {
     let mut left = counted(left, Ok(()))?;
     for part in parts.items() {

@@ -71,7 +71,8 @@ fn order_between(
     a: Option<&Value>,
     b: Option<&Value>,
 ) -> Mem<Option<Ordering>>
-    ensures value { IfOk result (λ order. order ≡ order_between fold (option_copied a.entry) (option_copied b.entry)) }
+    ensures value { IfOk result (λ order. order
+        ≡ order_between fold (option_copied a.entry) (option_copied b.entry)) }
     ensures memory { OnErr result (IsTrue fold) }
 {
     if !fold {

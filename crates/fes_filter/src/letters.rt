@@ -4,7 +4,8 @@ ghost use Rattle.std.specs.Prelude.{◌≡◌, ◌<◌, ◌≤◌, [], ◌∷◌
 
 /// The first character, and the text behind it.
 pub fn split_first(text: &str) -> Option<(char, &str)>
-    ensures { MatchOption result ((chars text.now ≡ []) × (text.now ≡ [])) (λ (c, rest). (chars text.now ≡ c ∷ chars rest.now) × (length rest.now < length text.now)) }
+    ensures { MatchOption result ((chars text.now ≡ []) × (text.now ≡ []))
+        (λ (c, rest). (chars text.now ≡ c ∷ chars rest.now) × (length rest.now < length text.now)) }
 {
     let mut chars = text.chars();
     match chars.next() {

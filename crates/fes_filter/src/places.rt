@@ -95,7 +95,8 @@ pub fn from_run<'a>(
     requires within { start ≤ length parts.now }
     requires before { NoManyBefore parts.now start }
     requires begins { IsBeginOf run.now (letters (drop start parts.now)) }
-    ensures { MatchOption result (some_end (is_like parts.now) (chars text.now) ≡ false) (λ rest. IsLeft parts.now text.now rest.now) }
+    ensures { MatchOption result (some_end (is_like parts.now) (chars text.now) ≡ false)
+        (λ rest. IsLeft parts.now text.now rest.now) }
 {
     let ahead = behind(text, start);
     match run.find(ahead.as_bytes()) {

@@ -80,7 +80,8 @@ fn holds(alloc: Global, filter: &Filter, feature: &Feature) -> Mem<bool>
 
 #[cycle(holds)]
 fn do_all_hold(alloc: Global, parts: &List<Filter>, feature: &Feature) -> Mem<bool>
-    ensures value { IfOk result (λ b. b ≡ list_all (λ part. part) (map (truth_of feature.now) parts.now)) }
+    ensures value { IfOk result (λ b. b ≡ list_all (λ part. part)
+        (map (truth_of feature.now) parts.now)) }
     ensures memory { OnErr result (IsTrue (list_any (λ part. part) (map folds parts.now))) }
 {
     for part in parts.items() {
@@ -93,7 +94,8 @@ fn do_all_hold(alloc: Global, parts: &List<Filter>, feature: &Feature) -> Mem<bo
 
 #[cycle(holds)]
 fn does_any_hold(alloc: Global, parts: &List<Filter>, feature: &Feature) -> Mem<bool>
-    ensures value { IfOk result (λ b. b ≡ list_any (λ part. part) (map (truth_of feature.now) parts.now)) }
+    ensures value { IfOk result (λ b. b ≡ list_any (λ part. part)
+        (map (truth_of feature.now) parts.now)) }
     ensures memory { OnErr result (IsTrue (list_any (λ part. part) (map folds parts.now))) }
 {
     for part in parts.items() {

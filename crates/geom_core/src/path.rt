@@ -23,7 +23,8 @@ impl Model for Path {
 
     ghost view = { λ p. p.positions.items };
 
-    ghost invariant = { λ p. (0 < length p.positions.items) × (p.bounds ≡ least_box p.positions.items) };
+    ghost invariant = { λ p. (0 < length p.positions.items)
+        × (p.bounds ≡ least_box p.positions.items) };
 }
 
 impl Path {

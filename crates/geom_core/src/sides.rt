@@ -150,7 +150,8 @@ fn do_touch(a: Pos, b: Pos, c: Pos, d: Pos) -> bool
 #[tactic(auto, unfolding(crate::specs::Segments::do_meet))]
 pub fn segments_meet(a: Pos, b: Pos, c: Pos, d: Pos) -> bool
     ensures value { result ≡ do_meet (record { from = a; to = b }) (record { from = c; to = d }) }
-    ensures symmetric { result ≡ do_meet (record { from = c; to = d }) (record { from = a; to = b }) }
+    ensures symmetric { result ≡ do_meet (record { from = c; to = d })
+        (record { from = a; to = b }) }
 {
     if Box2::between(a, b).is_apart(&Box2::between(c, d)) {
         return false;

@@ -31,7 +31,8 @@ fn with_digit(number: u64, digit: u8) -> u64
 fn leading_number(text: &[u8]) -> (usize, u64)
     ensures count { result.0 ≡ digit_count text.now }
     ensures bound { result.0 ≤ length text.now }
-    ensures number { result.1 ≡ near_natural (digits_value 10 (take (digit_count text.now) text.now)) }
+    ensures number { result.1 ≡ near_natural (digits_value 10
+        (take (digit_count text.now) text.now)) }
     ensures few { result.1 ≤ 1_000_000_001 }
 {
     let mut number = 0;

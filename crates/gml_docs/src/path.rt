@@ -49,14 +49,16 @@ fn list_at(alloc: Global, element: &Element, srs: &List<Text>) -> Result<Vec<Pos
 
 #[tactic(auto, unfolding(crate::specs::Elements::next_position))]
 fn add_position(found: &mut Vec<Pos>, element: &Element, srs: &List<Text>) -> Result<(), GmlFault>
-    ensures { GivesBut OutOfMemory (λ _. found.new.items) result (next_position srs.now found.old.items element.now) }
+    ensures { GivesBut OutOfMemory (λ _. found.new.items) result
+        (next_position srs.now found.old.items element.now) }
 {
     found.push(position_at(element, "pos", srs)?)?;
     Ok(())
 }
 
 fn positions_at(alloc: Global, elements: &[Element], srs: &List<Text>) -> Result<Vec<Pos>, GmlFault>
-    ensures { GivesBut OutOfMemory (λ v. v.items) result (each (next_position srs.now) [] elements.now) }
+    ensures { GivesBut OutOfMemory (λ v. v.items) result
+        (each (next_position srs.now) [] elements.now) }
 {
     let mut found = Vec::new(alloc);
     for element in elements {

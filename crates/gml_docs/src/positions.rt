@@ -35,7 +35,8 @@ fn with_position(
     found: Result<Vec<Pos>, GeomFault>,
     position: Result<Pos, GeomFault>,
 ) -> Mem<Result<Vec<Pos>, GeomFault>>
-    ensures { IfOk result (λ r. result_map_both (λ v. v.items) (λ e. e) r ≡ behind (result_map_both (λ v. v.items) (λ e. e) found) position) }
+    ensures { IfOk result (λ r. result_map_both (λ v. v.items) (λ e. e) r
+        ≡ behind (result_map_both (λ v. v.items) (λ e. e) found) position) }
 {
     let mut positions = match found {
         Ok(positions) => positions,

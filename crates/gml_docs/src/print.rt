@@ -25,14 +25,16 @@ pub struct GeometryId<'a> {
 }
 
 fn put_natural<S: Sink>(sink: &mut S, failed: bool, number: u64) -> bool
-    ensures { Writes (record { shown = S.sink sink.old; failed = failed }) (decimal number) (record { shown = S.sink sink.new; failed = result }) }
+    ensures { Writes (record { shown = S.sink sink.old; failed = failed }) (decimal number)
+        (record { shown = S.sink sink.new; failed = result }) }
 {
     let mut buffer = Buffer::new();
     put_on(sink, failed, buffer.format(number).as_bytes())
 }
 
 fn put_number<S: Sink>(sink: &mut S, failed: bool, number: i32) -> bool
-    ensures { Writes (record { shown = S.sink sink.old; failed = failed }) (signed_decimal number) (record { shown = S.sink sink.new; failed = result }) }
+    ensures { Writes (record { shown = S.sink sink.old; failed = failed }) (signed_decimal number)
+        (record { shown = S.sink sink.new; failed = result }) }
 {
     let mut buffer = Buffer::new();
     put_on(sink, failed, buffer.format(number).as_bytes())
@@ -40,7 +42,9 @@ fn put_number<S: Sink>(sink: &mut S, failed: bool, number: i32) -> bool
 
 // The identifier with these parts.
 fn put_id<S: Sink>(sink: &mut S, failed: bool, kind: &str, number: u64, property: &str) -> bool
-    ensures { Writes (record { shown = S.sink sink.old; failed = failed }) (escaped true (id_text kind.now number property.now)) (record { shown = S.sink sink.new; failed = result }) }
+    ensures { Writes (record { shown = S.sink sink.old; failed = failed })
+        (escaped true (id_text kind.now number property.now))
+        (record { shown = S.sink sink.new; failed = result }) }
 {
     let failed = put_text_on(sink, failed, kind, true);
     let failed = put_on(sink, failed, b".");
@@ -57,7 +61,9 @@ fn put_head<S: Sink>(
     id: &GeometryId<'_>,
     srs: &str,
 ) -> bool
-    ensures { Writes (record { shown = S.sink sink.old; failed = failed }) (head_text start.now (id_of id.now) srs.now) (record { shown = S.sink sink.new; failed = result }) }
+    ensures { Writes (record { shown = S.sink sink.old; failed = failed })
+        (head_text start.now (id_of id.now) srs.now)
+        (record { shown = S.sink sink.new; failed = result }) }
 {
     let failed = put_on(sink, failed, start);
     let failed = put_id(sink, failed, id.kind, id.number, id.property);
@@ -68,7 +74,9 @@ fn put_head<S: Sink>(
 
 // Two coordinates, with a space between them.
 fn put_pair<S: Sink>(sink: &mut S, failed: bool, x: i32, y: i32) -> bool
-    ensures { Writes (record { shown = S.sink sink.old; failed = failed }) (joined (signed_decimal x ∷ codes " " ∷ signed_decimal y ∷ [])) (record { shown = S.sink sink.new; failed = result }) }
+    ensures { Writes (record { shown = S.sink sink.old; failed = failed })
+        (joined (signed_decimal x ∷ codes " " ∷ signed_decimal y ∷ []))
+        (record { shown = S.sink sink.new; failed = result }) }
 {
     let failed = put_number(sink, failed, x);
     let failed = put_on(sink, failed, b" ");
@@ -77,20 +85,23 @@ fn put_pair<S: Sink>(sink: &mut S, failed: bool, x: i32, y: i32) -> bool
 
 #[tactic(auto, unfolding(crate::specs::Written::position_text))]
 fn put_position<S: Sink>(sink: &mut S, failed: bool, p: Pos) -> bool
-    ensures { Writes (record { shown = S.sink sink.old; failed = failed }) (position_text p) (record { shown = S.sink sink.new; failed = result }) }
+    ensures { Writes (record { shown = S.sink sink.old; failed = failed }) (position_text p)
+        (record { shown = S.sink sink.new; failed = result }) }
 {
     put_pair(sink, failed, p.x, p.y)
 }
 
 fn put_next<S: Sink>(sink: &mut S, failed: bool, p: Pos) -> bool
-    ensures { Writes (record { shown = S.sink sink.old; failed = failed }) (next_text p) (record { shown = S.sink sink.new; failed = result }) }
+    ensures { Writes (record { shown = S.sink sink.old; failed = failed }) (next_text p)
+        (record { shown = S.sink sink.new; failed = result }) }
 {
     let begun = put_on(sink, failed, b" ");
     put_position(sink, begun, p)
 }
 
 fn put_rest<S: Sink>(sink: &mut S, failed: bool, positions: &[Pos]) -> bool
-    ensures { Writes (record { shown = S.sink sink.old; failed = failed }) (flat_map next_text positions.now) (record { shown = S.sink sink.new; failed = result }) }
+    ensures { Writes (record { shown = S.sink sink.old; failed = failed })
+        (flat_map next_text positions.now) (record { shown = S.sink sink.new; failed = result }) }
 {
     let mut failed = failed;
     for p in positions {
@@ -101,7 +112,9 @@ fn put_rest<S: Sink>(sink: &mut S, failed: bool, positions: &[Pos]) -> bool
 
 // A first position, and the others behind it.
 fn put_from<S: Sink>(sink: &mut S, failed: bool, first: Pos, rest: &[Pos]) -> bool
-    ensures { Writes (record { shown = S.sink sink.old; failed = failed }) (position_text first ++ flat_map next_text rest.now) (record { shown = S.sink sink.new; failed = result }) }
+    ensures { Writes (record { shown = S.sink sink.old; failed = failed })
+        (position_text first ++ flat_map next_text rest.now)
+        (record { shown = S.sink sink.new; failed = result }) }
 {
     let failed = put_position(sink, failed, first);
     put_rest(sink, failed, rest)
@@ -109,7 +122,8 @@ fn put_from<S: Sink>(sink: &mut S, failed: bool, first: Pos, rest: &[Pos]) -> bo
 
 #[tactic(auto, unfolding(crate::specs::Written::positions_text))]
 fn put_positions<S: Sink>(sink: &mut S, failed: bool, positions: &[Pos]) -> bool
-    ensures { Writes (record { shown = S.sink sink.old; failed = failed }) (positions_text positions.now) (record { shown = S.sink sink.new; failed = result }) }
+    ensures { Writes (record { shown = S.sink sink.old; failed = failed })
+        (positions_text positions.now) (record { shown = S.sink sink.new; failed = result }) }
 {
     match positions {
         [first, rest @ ..] => put_from(sink, failed, *first, rest),
@@ -118,7 +132,8 @@ fn put_positions<S: Sink>(sink: &mut S, failed: bool, positions: &[Pos]) -> bool
 }
 
 fn put_some_positions<S: Sink>(sink: &mut S, failed: bool, positions: &[Pos]) -> bool
-    ensures { Writes (record { shown = S.sink sink.old; failed = failed }) (some_positions_text positions.now) (record { shown = S.sink sink.new; failed = result }) }
+    ensures { Writes (record { shown = S.sink sink.old; failed = failed })
+        (some_positions_text positions.now) (record { shown = S.sink sink.new; failed = result }) }
 {
     let failed = put_on(sink, failed, b"<gml:posList>");
     let failed = put_positions(sink, failed, positions);
@@ -126,7 +141,8 @@ fn put_some_positions<S: Sink>(sink: &mut S, failed: bool, positions: &[Pos]) ->
 }
 
 fn put_list<S: Sink>(sink: &mut S, failed: bool, positions: &[Pos]) -> bool
-    ensures { Writes (record { shown = S.sink sink.old; failed = failed }) (list_text positions.now) (record { shown = S.sink sink.new; failed = result }) }
+    ensures { Writes (record { shown = S.sink sink.old; failed = failed }) (list_text positions.now)
+        (record { shown = S.sink sink.new; failed = result }) }
 {
     match positions {
         [] => put_on(sink, failed, b"<gml:posList/>"),
@@ -135,7 +151,8 @@ fn put_list<S: Sink>(sink: &mut S, failed: bool, positions: &[Pos]) -> bool
 }
 
 fn put_ring<S: Sink>(sink: &mut S, failed: bool, ring: &Ring) -> bool
-    ensures { Writes (record { shown = S.sink sink.old; failed = failed }) (ring_text ring.now) (record { shown = S.sink sink.new; failed = result }) }
+    ensures { Writes (record { shown = S.sink sink.old; failed = failed }) (ring_text ring.now)
+        (record { shown = S.sink sink.new; failed = result }) }
 {
     let failed = put_on(sink, failed, b"<gml:LinearRing>");
     let failed = put_list(sink, failed, ring.positions());
@@ -143,7 +160,8 @@ fn put_ring<S: Sink>(sink: &mut S, failed: bool, ring: &Ring) -> bool
 }
 
 fn put_hole<S: Sink>(sink: &mut S, failed: bool, hole: &Ring) -> bool
-    ensures { Writes (record { shown = S.sink sink.old; failed = failed }) (hole_text hole.now) (record { shown = S.sink sink.new; failed = result }) }
+    ensures { Writes (record { shown = S.sink sink.old; failed = failed }) (hole_text hole.now)
+        (record { shown = S.sink sink.new; failed = result }) }
 {
     let failed = put_on(sink, failed, b"<gml:interior>");
     let failed = put_ring(sink, failed, hole);
@@ -151,7 +169,8 @@ fn put_hole<S: Sink>(sink: &mut S, failed: bool, hole: &Ring) -> bool
 }
 
 fn put_holes<S: Sink>(sink: &mut S, failed: bool, holes: &[Ring]) -> bool
-    ensures { Writes (record { shown = S.sink sink.old; failed = failed }) (flat_map hole_text holes.now) (record { shown = S.sink sink.new; failed = result }) }
+    ensures { Writes (record { shown = S.sink sink.old; failed = failed })
+        (flat_map hole_text holes.now) (record { shown = S.sink sink.new; failed = result }) }
 {
     let mut failed = failed;
     for hole in holes {
@@ -161,7 +180,9 @@ fn put_holes<S: Sink>(sink: &mut S, failed: bool, holes: &[Ring]) -> bool
 }
 
 fn put_point<S: Sink>(sink: &mut S, failed: bool, p: Pos, id: &GeometryId<'_>, srs: &str) -> bool
-    ensures { Writes (record { shown = S.sink sink.old; failed = failed }) (point_text p (id_of id.now) srs.now) (record { shown = S.sink sink.new; failed = result }) }
+    ensures { Writes (record { shown = S.sink sink.old; failed = failed })
+        (point_text p (id_of id.now) srs.now)
+        (record { shown = S.sink sink.new; failed = result }) }
 {
     let failed = put_head(sink, failed, b"<gml:Point gml:id=\"", id, srs);
     let failed = put_on(sink, failed, b"<gml:pos>");
@@ -176,7 +197,9 @@ fn put_line<S: Sink>(
     id: &GeometryId<'_>,
     srs: &str,
 ) -> bool
-    ensures { Writes (record { shown = S.sink sink.old; failed = failed }) (line_text line.now (id_of id.now) srs.now) (record { shown = S.sink sink.new; failed = result }) }
+    ensures { Writes (record { shown = S.sink sink.old; failed = failed })
+        (line_text line.now (id_of id.now) srs.now)
+        (record { shown = S.sink sink.new; failed = result }) }
 {
     let failed = put_head(sink, failed, b"<gml:LineString gml:id=\"", id, srs);
     let failed = put_list(sink, failed, line);
@@ -190,7 +213,9 @@ fn put_area<S: Sink>(
     id: &GeometryId<'_>,
     srs: &str,
 ) -> bool
-    ensures { Writes (record { shown = S.sink sink.old; failed = failed }) (area_text area.now (id_of id.now) srs.now) (record { shown = S.sink sink.new; failed = result }) }
+    ensures { Writes (record { shown = S.sink sink.old; failed = failed })
+        (area_text area.now (id_of id.now) srs.now)
+        (record { shown = S.sink sink.new; failed = result }) }
 {
     let failed = put_head(sink, failed, b"<gml:Polygon gml:id=\"", id, srs);
     let failed = put_on(sink, failed, b"<gml:exterior>");
@@ -216,7 +241,9 @@ pub fn put_geometry<S: Sink>(
     id: &GeometryId<'_>,
     srs: &str,
 ) -> bool
-    ensures { Writes (record { shown = S.sink sink.old; failed = failed }) (geometry_text g.now (id_of id.now) srs.now) (record { shown = S.sink sink.new; failed = result }) }
+    ensures { Writes (record { shown = S.sink sink.old; failed = failed })
+        (geometry_text g.now (id_of id.now) srs.now)
+        (record { shown = S.sink sink.new; failed = result }) }
 {
     match g {
         Geometry::At(p) => put_point(sink, failed, *p, id, srs),

@@ -79,14 +79,16 @@ fn add_hole(
     element: &Element,
     srs: &List<Text>,
 ) -> Result<(), GmlFault>
-    ensures { GivesBut OutOfMemory (λ _. found.new.items) result (next_hole srs.now found.old.items element.now) }
+    ensures { GivesBut OutOfMemory (λ _. found.new.items) result
+        (next_hole srs.now found.old.items element.now) }
 {
     found.push(side_at(alloc, element, "interior", srs)?)?;
     Ok(())
 }
 
 fn holes_of(alloc: Global, elements: &[Element], srs: &List<Text>) -> Result<Vec<Ring>, GmlFault>
-    ensures { GivesBut OutOfMemory (λ v. v.items) result (each (next_hole srs.now) [] elements.now) }
+    ensures { GivesBut OutOfMemory (λ v. v.items) result
+        (each (next_hole srs.now) [] elements.now) }
 {
     let mut found = Vec::new(alloc);
     for element in elements {

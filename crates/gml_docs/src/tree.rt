@@ -47,7 +47,8 @@ fn add_next(line: &mut String, p: Pos) -> Mem<()>
 }
 
 fn add_rest(line: &mut String, positions: &[Pos]) -> Mem<()>
-    ensures { OnOk result (string_bytes line.new ≡ string_bytes line.old ++ flat_map next_text positions.now) }
+    ensures { OnOk result (string_bytes line.new
+        ≡ string_bytes line.old ++ flat_map next_text positions.now) }
 {
     for p in positions {
         add_next(line, *p)?;
@@ -57,7 +58,8 @@ fn add_rest(line: &mut String, positions: &[Pos]) -> Mem<()>
 
 #[tactic(auto, using(crate::proofs::Pieces::two), unfolding(crate::specs::Written::positions_text))]
 fn add_positions(line: &mut String, positions: &[Pos]) -> Mem<()>
-    ensures { OnOk result (string_bytes line.new ≡ string_bytes line.old ++ positions_text positions.now) }
+    ensures { OnOk result (string_bytes line.new
+        ≡ string_bytes line.old ++ positions_text positions.now) }
 {
     match positions {
         [first, rest @ ..] => {

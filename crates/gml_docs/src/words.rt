@@ -39,7 +39,8 @@ fn word_length(bytes: &[u8]) -> usize
 
 // The first word of a text, and what follows it.
 pub(crate) fn first_word(text: &[u8]) -> Option<(&[u8], &[u8])>
-    ensures { MatchOption result (words text.now ≡ []) (λ t. (words text.now ≡ t.0.now ∷ words t.1.now) × (length t.1.now < length text.now)) }
+    ensures { MatchOption result (words text.now ≡ [])
+        (λ t. (words text.now ≡ t.0.now ∷ words t.1.now) × (length t.1.now < length text.now)) }
 {
     let text = &text[leading_spaces(text)..];
     if text.is_empty() {

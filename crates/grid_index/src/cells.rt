@@ -119,7 +119,8 @@ pub fn places(area: &Box2) -> usize
 }
 
 fn is_beyond(low: Pos, high: Pos) -> bool
-    ensures { result ≡ (int_lt (cell_of high.x) (cell_of low.x) || int_lt (cell_of high.y) (cell_of low.y)) }
+    ensures { result ≡ (int_lt (cell_of high.x) (cell_of low.x) || int_lt (cell_of high.y)
+        (cell_of low.y)) }
 {
     cell_of(low.x) > cell_of(high.x) || cell_of(low.y) > cell_of(high.y)
 }

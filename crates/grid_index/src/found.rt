@@ -31,7 +31,8 @@ impl Found {
     // Adds a feature, where it is not there yet.
     pub fn add(&mut self, id: Rid) -> Mem<()>
         requires { AreMarked self.old.marks self.old.ids.items }
-        ensures ids { OnOk result ((f : _) → is_among f self.new.ids.items ≡ (is_among f self.old.ids.items || is_same id f)) }
+        ensures ids { OnOk result ((f : _) → is_among f self.new.ids.items
+            ≡ (is_among f self.old.ids.items || is_same id f)) }
         ensures marked { OnOk result (AreMarked self.new.marks self.new.ids.items) }
     {
         if self.marks.insert((id.kind, id.number))? {

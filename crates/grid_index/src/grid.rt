@@ -47,7 +47,8 @@ impl Grid {
 
     /// Makes room to add these boxes. `OutOfMemory`: memory ran out, and the pairs are as before.
     pub fn reserve(&mut self, areas: &List<Box2>) -> Mem<()>
-        ensures pairs { (pairs : _) → IsGridOf (pairs_at self.old) pairs → IsGridOf (pairs_at self.new) pairs }
+        ensures pairs { (pairs : _) → IsGridOf (pairs_at self.old) pairs
+            → IsGridOf (pairs_at self.new) pairs }
         ensures spare { OnOk result (IsSpare areas.now self.new) }
         ensures room { HasNoLessRoom self.old.room self.new.room }
     {
@@ -57,15 +58,18 @@ impl Grid {
     /// Adds a pair of a feature and a box that it has, for which there is room. It takes no memory.
     pub fn add(&mut self, id: Rid, area: Box2)
         requires { IsSpare (area ∷ []) self.old }
-        ensures pairs { (pairs : _) → IsGridOf (pairs_at self.old) pairs → IsGridOf (pairs_at self.new) (pairs ++ (id, area) ∷ []) }
-        ensures room { (place : _) → room_at self.old.room place ≤ room_at self.new.room place + taking place area }
+        ensures pairs { (pairs : _) → IsGridOf (pairs_at self.old) pairs
+            → IsGridOf (pairs_at self.new) (pairs ++ (id, area) ∷ []) }
+        ensures room { (place : _) → room_at self.old.room place ≤ room_at self.new.room place +
+            taking place area }
     {
         put_in(&mut self.lists, id, area);
     }
 
     /// Takes out one such pair, where there is one.
     pub fn remove(&mut self, id: Rid, area: Box2)
-        ensures pairs { (before after : _) → IsGridOf (pairs_at self.old) (before ++ (id, area) ∷ after) → IsGridOf (pairs_at self.new) (before ++ after) }
+        ensures pairs { (before after : _) → IsGridOf (pairs_at self.old)
+            (before ++ (id, area) ∷ after) → IsGridOf (pairs_at self.new) (before ++ after) }
         ensures others { IsTakenOut (id, area) (pairs_at self.old) (pairs_at self.new) }
         ensures room { HasNoLessRoom self.old.room self.new.room }
     {
@@ -74,7 +78,8 @@ impl Grid {
 
     /// Forgets the places where no pair stands any more, if they are more than the others. Room may be lost there.
     pub fn sweep(&mut self)
-        ensures { (pairs : _) → IsGridOf (pairs_at self.old) pairs → IsGridOf (pairs_at self.new) pairs }
+        ensures { (pairs : _) → IsGridOf (pairs_at self.old) pairs
+            → IsGridOf (pairs_at self.new) pairs }
     {
         self.lists.sweep();
     }
@@ -82,8 +87,10 @@ impl Grid {
     /// The features near a box, each once: those with a box that shares a cell with it, and those on the wide list;
     /// for a box over more than 65,536 cells all features. `OutOfMemory`: memory ran out.
     pub fn near(&self, alloc: Global, area: &Box2) -> Mem<List<Rid>>
-        ensures exact { IfOk result (λ ids. (pairs : _) → IsGridOf (pairs_at self.now) pairs → AreNear area.now pairs ids) }
-        ensures meeting { IfOk result (λ ids. (pairs : _) → IsGridOf (pairs_at self.now) pairs → All (IsMet area.now ids) pairs) }
+        ensures exact { IfOk result (λ ids. (pairs : _) → IsGridOf (pairs_at self.now) pairs
+            → AreNear area.now pairs ids) }
+        ensures meeting { IfOk result (λ ids. (pairs : _) → IsGridOf (pairs_at self.now) pairs
+            → All (IsMet area.now ids) pairs) }
     {
         if is_for_all(self.lists.by_place.len(), area) {
             return Ok(List::of(among_all(alloc, &self.lists, area)?));

@@ -45,7 +45,8 @@ fn push_on(list: &mut Vec<(Rid, Box2)>, id: Rid, area: Box2) -> bool
 
 // Takes one such pair out of a list, where there is one, and tells whether it was the last.
 fn take_from(list: &mut Vec<(Rid, Box2)>, id: Rid, area: Box2) -> bool
-    ensures pairs { (p : Placed) → times p list.new.items ≡ times p list.old.items - one_if (is_pair p (id, area)) }
+    ensures pairs { (p : Placed) → times p list.new.items
+        ≡ times p list.old.items - one_if (is_pair p (id, area)) }
     ensures len { vec_len list.new ≤ vec_len list.old }
     ensures capacity { vec_capacity list.new ≡ vec_capacity list.old }
 {
@@ -102,8 +103,11 @@ impl Lists {
     // Puts a pair at a place, where there is room for it.
     pub fn push(&mut self, place: Place, id: Rid, area: Box2)
         requires { 1 ≤ spare_at self.old place }
-        ensures pairs { (q : ThePlace) → listed_at self.new q ≡ cond (same_place place q) (listed_at self.old q ++ (id, area) ∷ []) (listed_at self.old q) }
-        ensures room { (q : ThePlace) → spare_at self.old q ≤ spare_at self.new q + one_if (same_place place q) }
+        ensures pairs { (q : ThePlace) → listed_at self.new q
+            ≡ cond (same_place place q) (listed_at self.old q ++ (id, area) ∷ [])
+            (listed_at self.old q) }
+        ensures room { (q : ThePlace) → spare_at self.old q ≤ spare_at self.new q + one_if
+            (same_place place q) }
     {
         if let Some(list) = self.by_place.get_mut(&place) {
             let is_first = push_on(list, id, area);
@@ -115,7 +119,9 @@ impl Lists {
 
     // Takes one such pair from a place, where there is one.
     pub fn take(&mut self, place: Place, id: Rid, area: Box2)
-        ensures pairs { (q : ThePlace) (p : Placed) → times p (listed_at self.new q) ≡ times p (listed_at self.old q) - one_if (same_place place q && is_pair p (id, area)) }
+        ensures pairs { (q : ThePlace) (p : Placed)
+            → times p (listed_at self.new q)
+            ≡ times p (listed_at self.old q) - one_if (same_place place q && is_pair p (id, area)) }
         ensures room { IsRoomier self.old self.new }
     {
         if let Some(list) = self.by_place.get_mut(&place) {
@@ -140,7 +146,8 @@ impl Lists {
     pub fn collect(&self, place: Place, found: &mut Found) -> Mem<()>
         requires { AreMarked found.old.marks found.old.ids.items }
         ensures marked { OnOk result (AreMarked found.new.marks found.new.ids.items) }
-        ensures finds { OnOk result (FindsAlso (listed_at self.now place) found.old.ids.items found.new.ids.items) }
+        ensures finds { OnOk result (FindsAlso (listed_at self.now place) found.old.ids.items
+            found.new.ids.items) }
     {
         match self.by_place.get(&place) {
             Some(list) => found.add_all(list.as_slice()),

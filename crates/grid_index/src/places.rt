@@ -32,7 +32,8 @@ pub fn place_at(area: &Box2, i: usize) -> Place
 // Puts a pair at each of its places, where there is room for it.
 pub fn put_in(lists: &mut Lists, id: Rid, area: Box2)
     requires { (q : ThePlace) → taking q area ≤ spare_at lists.old q }
-    ensures pairs { (q : ThePlace) → listed_at lists.new q ≡ cond (takes area q) (listed_at lists.old q ++ (id, area) ∷ []) (listed_at lists.old q) }
+    ensures pairs { (q : ThePlace) → listed_at lists.new q
+        ≡ cond (takes area q) (listed_at lists.old q ++ (id, area) ∷ []) (listed_at lists.old q) }
     ensures room { (q : ThePlace) → spare_at lists.old q ≤ spare_at lists.new q + taking q area }
     ensures upright { IsUpright area }
 {
@@ -43,7 +44,9 @@ pub fn put_in(lists: &mut Lists, id: Rid, area: Box2)
 
 // Takes one such pair from each of its places, where there is one.
 pub fn take_out(lists: &mut Lists, id: Rid, area: Box2)
-    ensures pairs { (q : ThePlace) (p : Placed) → times p (listed_at lists.new q) ≡ times p (listed_at lists.old q) - one_if (takes area q && is_pair p (id, area)) }
+    ensures pairs { (q : ThePlace) (p : Placed)
+        → times p (listed_at lists.new q)
+        ≡ times p (listed_at lists.old q) - one_if (takes area q && is_pair p (id, area)) }
     ensures room { IsRoomier lists.old lists.new }
 {
     for i in 0..cells::places(&area) {

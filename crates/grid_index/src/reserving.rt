@@ -17,7 +17,8 @@ use wfs_ends::{Mem, OutOfMemory};
 
 // Counts a place once more.
 fn count_one(counts: &mut HashMap<Place, usize>, place: Place) -> Mem<()>
-    ensures { OnOk result ((q : ThePlace) → count_in counts.new q ≡ count_in counts.old q + one_if (same_place place q)) }
+    ensures { OnOk result ((q : ThePlace) → count_in counts.new q
+        ≡ count_in counts.old q + one_if (same_place place q)) }
 {
     let count = counts.get(&place).copied().unwrap_or(0);
     let Some(more) = count.checked_add(1) else {
@@ -31,7 +32,8 @@ fn count_one(counts: &mut HashMap<Place, usize>, place: Place) -> Mem<()>
 
 // Counts each place that a box takes.
 fn count_box(counts: &mut HashMap<Place, usize>, area: &Box2) -> Mem<()>
-    ensures { OnOk result ((q : ThePlace) → count_in counts.new q ≡ count_in counts.old q + taking q area.now) }
+    ensures { OnOk result ((q : ThePlace) → count_in counts.new q
+        ≡ count_in counts.old q + taking q area.now) }
 {
     for i in 0..cells::places(area) {
         count_one(counts, place_at(area, i))?;
@@ -41,7 +43,8 @@ fn count_box(counts: &mut HashMap<Place, usize>, area: &Box2) -> Mem<()>
 
 // How many of some boxes take each place.
 fn counts_of(alloc: Global, areas: &[Box2]) -> Mem<HashMap<Place, usize>>
-    ensures { IfOk result (λ counts. (q : ThePlace) → count_in counts q ≡ sum_by (taking q) areas.now) }
+    ensures { IfOk result (λ counts. (q : ThePlace)
+        → count_in counts q ≡ sum_by (taking q) areas.now) }
 {
     let mut counts = HashMap::new(alloc);
     for area in areas {
@@ -78,7 +81,8 @@ fn reserve_counts(lists: &mut Lists, counts: &HashMap<Place, usize>) -> Mem<()>
 pub fn reserve(lists: &mut Lists, areas: &[Box2]) -> Mem<()>
     ensures same { AreSame lists.old lists.new }
     ensures kept { IsRoomier lists.old lists.new }
-    ensures room { OnOk result ((q : ThePlace) → sum_by (taking q) areas.now ≤ spare_at lists.new q) }
+    ensures room { OnOk result ((q : ThePlace)
+        → sum_by (taking q) areas.now ≤ spare_at lists.new q) }
 {
     if areas.len() == 1 {
         return reserve_one(lists, &areas[0]);

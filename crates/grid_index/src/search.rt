@@ -51,7 +51,8 @@ pub fn is_for_all(lists: usize, asked: &Box2) -> bool
 fn add_if_near(found: &mut Found, asked: &Box2, pair: &(Rid, Box2)) -> Mem<()>
     requires { AreMarked found.old.marks found.old.ids.items }
     ensures marked { OnOk result (AreMarked found.new.marks found.new.ids.items) }
-    ensures finds { OnOk result ((f : TheRid) → is_among f found.new.ids.items ≡ (is_among f found.old.ids.items || puts_near asked.now f pair.now)) }
+    ensures finds { OnOk result ((f : TheRid) → is_among f found.new.ids.items
+        ≡ (is_among f found.old.ids.items || puts_near asked.now f pair.now)) }
 {
     if cells::is_near(asked, &pair.1) {
         found.add(pair.0)?;
@@ -63,7 +64,8 @@ fn add_if_near(found: &mut Found, asked: &Box2, pair: &(Rid, Box2)) -> Mem<()>
 fn add_near(found: &mut Found, asked: &Box2, pairs: &[(Rid, Box2)]) -> Mem<()>
     requires { AreMarked found.old.marks found.old.ids.items }
     ensures marked { OnOk result (AreMarked found.new.marks found.new.ids.items) }
-    ensures finds { OnOk result (FindsNear asked.now pairs.now found.old.ids.items found.new.ids.items) }
+    ensures finds { OnOk result (FindsNear asked.now pairs.now found.old.ids.items
+        found.new.ids.items) }
 {
     for pair in pairs {
         add_if_near(found, asked, pair)?;
@@ -73,7 +75,8 @@ fn add_near(found: &mut Found, asked: &Box2, pairs: &[(Rid, Box2)]) -> Mem<()>
 
 // The features of all pairs that are near a box.
 pub fn among_all(alloc: Global, lists: &Lists, asked: &Box2) -> Mem<Vec<Rid>>
-    ensures { IfOk result (λ ids. (pairs : List Placed) → IsGridOf (listed_at lists.now) pairs → AreNear asked.now pairs ids.items) }
+    ensures { IfOk result (λ ids. (pairs : List Placed) → IsGridOf (listed_at lists.now) pairs
+        → AreNear asked.now pairs ids.items) }
 {
     let mut found = Found::new(alloc);
     for (_place, list) in lists.by_place.iter() {
@@ -86,7 +89,8 @@ pub fn among_all(alloc: Global, lists: &Lists, asked: &Box2) -> Mem<Vec<Rid>>
 // The features on the wide list and in the cells of a box.
 pub fn in_cells(alloc: Global, lists: &Lists, asked: &Box2) -> Mem<Vec<Rid>>
     requires { is_huge asked.now ≡ false }
-    ensures { IfOk result (λ ids. (pairs : List Placed) → IsGridOf (listed_at lists.now) pairs → AreNear asked.now pairs ids.items) }
+    ensures { IfOk result (λ ids. (pairs : List Placed) → IsGridOf (listed_at lists.now) pairs
+        → AreNear asked.now pairs ids.items) }
 {
     let _low = asked.low;
     let mut found = Found::new(alloc);

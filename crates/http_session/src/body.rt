@@ -34,9 +34,11 @@ pub(crate) fn read_sized<S: Source>(
     source: &mut S,
     size: usize,
 ) -> BodyRead
-    ensures read { IsBodyRead (way.Sized size) result buffer.old (S.source source.old) buffer.new (S.source source.new) }
+    ensures read { IsBodyRead (way.Sized size) result buffer.old (S.source source.old) buffer.new
+        (S.source source.new) }
     ensures keeps { KeepsGiven (S.source source.old) (S.source source.new) }
-    ensures calm { (result ≡ BodyRead.Fault → ⊥) → IsCalm (S.source source.old) (S.source source.new) }
+    ensures calm { (result ≡ BodyRead.Fault → ⊥)
+        → IsCalm (S.source source.old) (S.source source.new) }
 {
     let Ok(mut content) = vec![in alloc; 0; size] else {
         return BodyRead::OutOfMemory;
@@ -51,7 +53,8 @@ pub(crate) fn read_sized<S: Source>(
 /// Fills a body with the bytes in the buffer and then those of the source, which go into it with no copy between.
 fn fill_body<S: Source>(body: &mut [u8], buffer: &mut Buffer, source: &mut S) -> Full
     ensures len { length body.new ≡ length body.old }
-    ensures full { IsFull result body.new buffer.old (S.source source.old) buffer.new (S.source source.new) }
+    ensures full { IsFull result body.new buffer.old (S.source source.old) buffer.new
+        (S.source source.new) }
     ensures keeps { KeepsGiven (S.source source.old) (S.source source.new) }
     ensures calm { (result ≡ Full.Fault → ⊥) → IsCalm (S.source source.old) (S.source source.new) }
 {
@@ -78,7 +81,8 @@ fn copy_front(into: &mut [u8], bytes: &[u8]) -> usize
 fn read_rest<S: Source>(body: &mut [u8], start: usize, source: &mut S) -> Full
     requires { start ≤ length body.old }
     ensures len { length body.new ≡ length body.old }
-    ensures rest { IsRest result start body.old (S.source source.old) body.new (S.source source.new) }
+    ensures rest { IsRest result start body.old (S.source source.old) body.new
+        (S.source source.new) }
     ensures keeps { KeepsGiven (S.source source.old) (S.source source.new) }
     ensures calm { (result ≡ Full.Fault → ⊥) → IsCalm (S.source source.old) (S.source source.new) }
 {

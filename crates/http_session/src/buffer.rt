@@ -68,8 +68,10 @@ impl Buffer {
     pub fn fill<S: Source>(&mut self, source: &mut S) -> Filled
         requires { length self.old < 16384 }
         ensures moved { Moved self.old (S.source source.old) self.new (S.source source.new) }
-        ensures filled { IsFilled result self.old (S.source source.old) self.new (S.source source.new) }
-        ensures calm { (result ≡ Filled.Fault → ⊥) → IsCalm (S.source source.old) (S.source source.new) }
+        ensures filled { IsFilled result self.old (S.source source.old) self.new
+            (S.source source.new) }
+        ensures calm { (result ≡ Filled.Fault → ⊥)
+            → IsCalm (S.source source.old) (S.source source.new) }
     {
         let (start, taken) = refill(&mut self.bytes, self.start, self.end, source);
         self.end = start + (self.end - self.start);
@@ -99,13 +101,20 @@ fn refill<S: Source>(
     ensures len { length bytes.new ≡ length bytes.old }
     ensures room { result.0 + (end - start) < length bytes.old }
     ensures within { IfOk result.1 (λ n. result.0 + (end - start) + n ≤ length bytes.new) }
-    ensures same { take (end - start) (drop result.0 bytes.new) ≡ take (end - start) (drop start bytes.old) }
-    ensures more { IfOk result.1 (λ n. take (end - start + n) (drop result.0 bytes.new) ≡ take (end - start) (drop start bytes.old) ++ take n (drop (result.0 + (end - start)) bytes.new)) }
-    ensures moved { IfOk result.1 (λ n. (S.source source.new).left ≡ left_after (S.source source.old).left n) }
-    ensures bytes { IfOk result.1 (λ n. IfSome (S.source source.old).left (λ left. (n ≤ length left) × (take n (drop (result.0 + (end - start)) bytes.new) ≡ take n left))) }
+    ensures same { take (end - start) (drop result.0 bytes.new)
+        ≡ take (end - start) (drop start bytes.old) }
+    ensures more { IfOk result.1 (λ n. take (end - start + n) (drop result.0 bytes.new)
+        ≡ take (end - start) (drop start bytes.old)
+        ++ take n (drop (result.0 + (end - start)) bytes.new)) }
+    ensures moved { IfOk result.1 (λ n. (S.source source.new).left
+        ≡ left_after (S.source source.old).left n) }
+    ensures bytes { IfOk result.1 (λ n. IfSome (S.source source.old).left
+        (λ left. (n ≤ length left) ×
+        (take n (drop (result.0 + (end - start)) bytes.new) ≡ take n left))) }
     ensures ends { result.1 ≡ Ok 0 → IfSome (S.source source.old).left (λ left. left ≡ []) }
     ensures err { OnErr result.1 ((S.source source.new).left ≡ (S.source source.old).left) }
-    ensures cause { OnErr result.1 (Rose (S.source source.old).failed_takes (S.source source.new).failed_takes) }
+    ensures cause { OnErr result.1 (Rose (S.source source.old).failed_takes
+        (S.source source.new).failed_takes) }
     ensures calm { OnOk result.1 (IsCalm (S.source source.old) (S.source source.new)) }
     ensures keeps { KeepsGiven (S.source source.old) (S.source source.new) }
 {
@@ -125,11 +134,14 @@ pub(crate) fn take_behind<S: Source>(
     ensures len { length bytes.new ≡ length bytes.old }
     ensures front { take end bytes.new ≡ take end bytes.old }
     ensures within { IfOk result (λ n. end + n ≤ length bytes.new) }
-    ensures moved { IfOk result (λ n. (S.source source.new).left ≡ left_after (S.source source.old).left n) }
-    ensures bytes { IfOk result (λ n. IfSome (S.source source.old).left (λ left. (n ≤ length left) × (take n (drop end bytes.new) ≡ take n left))) }
+    ensures moved { IfOk result (λ n. (S.source source.new).left
+        ≡ left_after (S.source source.old).left n) }
+    ensures bytes { IfOk result (λ n. IfSome (S.source source.old).left
+        (λ left. (n ≤ length left) × (take n (drop end bytes.new) ≡ take n left))) }
     ensures ends { result ≡ Ok 0 → IfSome (S.source source.old).left (λ left. left ≡ []) }
     ensures err { OnErr result ((S.source source.new).left ≡ (S.source source.old).left) }
-    ensures cause { OnErr result (Rose (S.source source.old).failed_takes (S.source source.new).failed_takes) }
+    ensures cause { OnErr result (Rose (S.source source.old).failed_takes
+        (S.source source.new).failed_takes) }
     ensures calm { OnOk result (IsCalm (S.source source.old) (S.source source.new)) }
     ensures keeps { KeepsGiven (S.source source.old) (S.source source.new) }
 {
@@ -141,7 +153,8 @@ fn make_room(bytes: &mut [u8], start: usize, end: usize) -> usize
     requires order { start ≤ end }
     requires within { end ≤ length bytes.old }
     requires room { end - start < length bytes.old }
-    ensures same { take (end - start) (drop result bytes.new) ≡ take (end - start) (drop start bytes.old) }
+    ensures same { take (end - start) (drop result bytes.new)
+        ≡ take (end - start) (drop start bytes.old) }
     ensures room { result + (end - start) < length bytes.old }
     ensures len { length bytes.new ≡ length bytes.old }
 {

@@ -58,9 +58,11 @@ pub(crate) fn read_chunked<S: Source>(
     buffer: &mut Buffer,
     source: &mut S,
 ) -> BodyRead
-    ensures read { IsBodyRead way.Chunked result buffer.old (S.source source.old) buffer.new (S.source source.new) }
+    ensures read { IsBodyRead way.Chunked result buffer.old (S.source source.old) buffer.new
+        (S.source source.new) }
     ensures keeps { KeepsGiven (S.source source.old) (S.source source.new) }
-    ensures calm { (result ≡ BodyRead.Fault → ⊥) → IsCalm (S.source source.old) (S.source source.new) }
+    ensures calm { (result ≡ BodyRead.Fault → ⊥)
+        → IsCalm (S.source source.old) (S.source source.new) }
 {
     let mut content = Vec::new(alloc);
     let mut allowed = SENT_LIMIT;
@@ -83,10 +85,13 @@ fn read_chunk<S: Source>(
     allowed: &mut u64,
 ) -> ChunkRead
     requires within { length content.old.items ≤ 4194304 }
-    ensures turn { IsTurn (λ w. turn_of content.old.items (line_of w)) result content.new.items (S.source source.old) (spot allowed.old buffer.old (S.source source.old)) (S.source source.new) (spot allowed.new buffer.new (S.source source.new)) }
+    ensures turn { IsTurn (λ w. turn_of content.old.items (line_of w)) result content.new.items
+        (S.source source.old) (spot allowed.old buffer.old (S.source source.old))
+        (S.source source.new) (spot allowed.new buffer.new (S.source source.new)) }
     ensures within { result ≡ chunkread.More → length content.new.items ≤ 4194304 }
     ensures keeps { KeepsGiven (S.source source.old) (S.source source.new) }
-    ensures calm { (result ≡ ChunkRead.Fault → ⊥) → IsCalm (S.source source.old) (S.source source.new) }
+    ensures calm { (result ≡ ChunkRead.Fault → ⊥)
+        → IsCalm (S.source source.old) (S.source source.new) }
 {
     match read_line(buffer, source, allowed) {
         LineRead::Line(0) => read_trailer(buffer, source, allowed),
@@ -99,10 +104,13 @@ fn read_chunk<S: Source>(
 
 /// Passes over the trailer lines, up to an empty one.
 fn read_trailer<S: Source>(buffer: &mut Buffer, source: &mut S, allowed: &mut u64) -> ChunkRead
-    ensures turn { (content : List ℕ) → IsTurn (λ w. stops (after_trailer content begun.Nothing w)) result content (S.source source.old) (spot allowed.old buffer.old (S.source source.old)) (S.source source.new) (spot allowed.new buffer.new (S.source source.new)) }
+    ensures turn { (content : List ℕ) → IsTurn (λ w. stops (after_trailer content begun.Nothing w))
+        result content (S.source source.old) (spot allowed.old buffer.old (S.source source.old))
+        (S.source source.new) (spot allowed.new buffer.new (S.source source.new)) }
     ensures end { result ≡ chunkread.More → ⊥ }
     ensures keeps { KeepsGiven (S.source source.old) (S.source source.new) }
-    ensures calm { (result ≡ ChunkRead.Fault → ⊥) → IsCalm (S.source source.old) (S.source source.new) }
+    ensures calm { (result ≡ ChunkRead.Fault → ⊥)
+        → IsCalm (S.source source.old) (S.source source.new) }
 {
     let mut line = Begun::Nothing;
     loop {
@@ -139,10 +147,13 @@ fn read_data<S: Source>(
     size: usize,
 ) -> ChunkRead
     requires within { length content.old.items ≤ 4194304 }
-    ensures turn { IsTurn (chunk_of content.old.items size) result content.new.items (S.source source.old) (spot allowed.old buffer.old (S.source source.old)) (S.source source.new) (spot allowed.new buffer.new (S.source source.new)) }
+    ensures turn { IsTurn (chunk_of content.old.items size) result content.new.items
+        (S.source source.old) (spot allowed.old buffer.old (S.source source.old))
+        (S.source source.new) (spot allowed.new buffer.new (S.source source.new)) }
     ensures within { result ≡ chunkread.More → length content.new.items ≤ 4194304 }
     ensures keeps { KeepsGiven (S.source source.old) (S.source source.new) }
-    ensures calm { (result ≡ ChunkRead.Fault → ⊥) → IsCalm (S.source source.old) (S.source source.new) }
+    ensures calm { (result ≡ ChunkRead.Fault → ⊥)
+        → IsCalm (S.source source.old) (S.source source.new) }
 {
     let mut left = size;
     while left > 0 {
@@ -177,7 +188,8 @@ fn copy_data(
     requires held { 0 < length buffer.old }
     requires may { 0 < allowed.old }
     requires room { length content.old.items < 4194304 }
-    ensures copied { IfSome result (IsCopied content.old.items buffer.old allowed.old left content.new.items buffer.new allowed.new) }
+    ensures copied { IfSome result (IsCopied content.old.items buffer.old allowed.old left
+        content.new.items buffer.new allowed.new) }
 {
     let bytes = buffer.bytes();
     let room = BODY_LIMIT - content.len();
@@ -192,9 +204,12 @@ fn copy_data(
 
 /// Reads the CR LF behind the content of a chunk.
 fn read_end<S: Source>(buffer: &mut Buffer, source: &mut S, allowed: &mut u64) -> ChunkRead
-    ensures turn { (content : List ℕ) → IsTurn (after_data content) result content (S.source source.old) (spot allowed.old buffer.old (S.source source.old)) (S.source source.new) (spot allowed.new buffer.new (S.source source.new)) }
+    ensures turn { (content : List ℕ) → IsTurn (after_data content) result content
+        (S.source source.old) (spot allowed.old buffer.old (S.source source.old))
+        (S.source source.new) (spot allowed.new buffer.new (S.source source.new)) }
     ensures keeps { KeepsGiven (S.source source.old) (S.source source.new) }
-    ensures calm { (result ≡ ChunkRead.Fault → ⊥) → IsCalm (S.source source.old) (S.source source.new) }
+    ensures calm { (result ≡ ChunkRead.Fault → ⊥)
+        → IsCalm (S.source source.old) (S.source source.new) }
 {
     match next_byte(buffer, source, allowed) {
         Byte::Next(b'\r') => read_line_feed(buffer, source, allowed),
@@ -206,9 +221,12 @@ fn read_end<S: Source>(buffer: &mut Buffer, source: &mut S, allowed: &mut u64) -
 
 /// Reads the LF.
 fn read_line_feed<S: Source>(buffer: &mut Buffer, source: &mut S, allowed: &mut u64) -> ChunkRead
-    ensures turn { (content : List ℕ) → IsTurn (after_return content) result content (S.source source.old) (spot allowed.old buffer.old (S.source source.old)) (S.source source.new) (spot allowed.new buffer.new (S.source source.new)) }
+    ensures turn { (content : List ℕ) → IsTurn (after_return content) result content
+        (S.source source.old) (spot allowed.old buffer.old (S.source source.old))
+        (S.source source.new) (spot allowed.new buffer.new (S.source source.new)) }
     ensures keeps { KeepsGiven (S.source source.old) (S.source source.new) }
-    ensures calm { (result ≡ ChunkRead.Fault → ⊥) → IsCalm (S.source source.old) (S.source source.new) }
+    ensures calm { (result ≡ ChunkRead.Fault → ⊥)
+        → IsCalm (S.source source.old) (S.source source.new) }
 {
     match next_byte(buffer, source, allowed) {
         Byte::Next(b'\n') => ChunkRead::More,
@@ -220,9 +238,12 @@ fn read_line_feed<S: Source>(buffer: &mut Buffer, source: &mut S, allowed: &mut 
 
 /// Reads a chunk line.
 fn read_line<S: Source>(buffer: &mut Buffer, source: &mut S, allowed: &mut u64) -> LineRead
-    ensures line { IsLineRead line_of result (S.source source.old) (spot allowed.old buffer.old (S.source source.old)) (S.source source.new) (spot allowed.new buffer.new (S.source source.new)) }
+    ensures line { IsLineRead line_of result (S.source source.old)
+        (spot allowed.old buffer.old (S.source source.old)) (S.source source.new)
+        (spot allowed.new buffer.new (S.source source.new)) }
     ensures keeps { KeepsGiven (S.source source.old) (S.source source.new) }
-    ensures calm { (result ≡ LineRead.Fault → ⊥) → IsCalm (S.source source.old) (S.source source.new) }
+    ensures calm { (result ≡ LineRead.Fault → ⊥)
+        → IsCalm (S.source source.old) (S.source source.new) }
 {
     let mut state = LineState::start();
     loop {

@@ -71,7 +71,8 @@ impl<'a> Named<'a> {
     /// With this field, if it has the name.
     fn with_field(self, bytes: &'a [u8], header: HeaderSpan, name: &[u8]) -> Named<'a>
         requires within { IsHeaderWithin (length bytes.now) header }
-        ensures { found result ≡ found_field name.now (found self.entry) (header_bytes bytes.now header) }
+        ensures { found result ≡ found_field name.now (found self.entry)
+            (header_bytes bytes.now header) }
     {
         if is_word(header.name.of(bytes), name) {
             self.more(header.value.of(bytes))
@@ -96,7 +97,8 @@ pub(crate) fn find_named<'a>(bytes: &'a [u8], headers: &[HeaderSpan], name: &[u8
 /// A field `Connection` lists `close`.
 pub(crate) fn has_close(bytes: &[u8], headers: &[HeaderSpan]) -> bool
     requires within { All (IsHeaderWithin (length bytes.now)) headers.now }
-    ensures { result ≡ list_any lists_close (values_of (codes "connection") (fields_at bytes.now headers.now)) }
+    ensures { result ≡ list_any lists_close (values_of (codes "connection")
+        (fields_at bytes.now headers.now)) }
 {
     for header in headers {
         if is_close(bytes, *header) {
@@ -116,7 +118,8 @@ fn is_close(bytes: &[u8], header: HeaderSpan) -> bool
 /// A field `Expect` is `100-continue`: each is judged by itself, and a list is no such word.
 pub(crate) fn has_wait(bytes: &[u8], headers: &[HeaderSpan]) -> bool
     requires within { All (IsHeaderWithin (length bytes.now)) headers.now }
-    ensures { result ≡ list_any asks_to_wait (values_of (codes "expect") (fields_at bytes.now headers.now)) }
+    ensures { result ≡ list_any asks_to_wait (values_of (codes "expect")
+        (fields_at bytes.now headers.now)) }
 {
     for header in headers {
         if is_wait(bytes, *header) {

@@ -63,8 +63,10 @@ pub(crate) fn read_head<S: Source>(
     requires room { length headers.old ≡ 5500 }
     ensures room { length headers.new ≡ 5500 }
     ensures moved { Moved buffer.old (S.source source.old) buffer.new (S.source source.new) }
-    ensures read { IsHeadRead result buffer.new headers.new (S.source source.old) (S.source source.new) }
-    ensures calm { (result ≡ HeadRead.Fault → ⊥) → IsCalm (S.source source.old) (S.source source.new) }
+    ensures read { IsHeadRead result buffer.new headers.new (S.source source.old)
+        (S.source source.new) }
+    ensures calm { (result ≡ HeadRead.Fault → ⊥)
+        → IsCalm (S.source source.old) (S.source source.new) }
 {
     let mut watch = Watch::new();
     while buffer.bytes().len() < ROOM {

@@ -149,7 +149,8 @@ fn is_only(bytes: &[u8], headers: &[HeaderSpan], name: &[u8], word: &[u8]) -> bo
 /// A coding is named, and it is not this one.
 fn is_other_than(bytes: &[u8], headers: &[HeaderSpan], name: &[u8], word: &[u8]) -> bool
     requires within { All (IsHeaderWithin (length bytes.now)) headers.now }
-    ensures { result ≡ is_other_than word.now (values_of name.now (fields_at bytes.now headers.now)) }
+    ensures { result ≡ is_other_than word.now (values_of name.now
+        (fields_at bytes.now headers.now)) }
 {
     has(bytes, headers, name) && !is_only(bytes, headers, name, word)
 }
@@ -157,7 +158,8 @@ fn is_other_than(bytes: &[u8], headers: &[HeaderSpan], name: &[u8], word: &[u8])
 /// The length that `Content-Length` states.
 fn stated_length(bytes: &[u8], headers: &[HeaderSpan]) -> Result<Option<usize>, Ending>
     requires within { All (IsHeaderWithin (length bytes.now)) headers.now }
-    ensures { result ≡ capped_length (length_of (values_of (codes "content-length") (fields_at bytes.now headers.now))) }
+    ensures { result ≡ capped_length (length_of
+        (values_of (codes "content-length") (fields_at bytes.now headers.now))) }
 {
     find_named(bytes, headers, b"content-length").length()
 }

@@ -56,7 +56,8 @@ impl Reader {
     /// just where that head asks for it. At `WriteFault` they hold a head that asks for it. After anything but a message
     /// the reader is not called again.
     pub fn next_message<L: Link>(&mut self, alloc: Global, link: &mut L) -> Next
-        ensures { Reads self.old (L.Source.source link.old) result self.new (L.Source.source link.new) }
+        ensures { Reads self.old (L.Source.source link.old) result self.new
+            (L.Source.source link.new) }
     {
         read_next(alloc, &mut self.buffer, &mut self.headers, link)
     }
@@ -71,7 +72,8 @@ fn read_next<L: Link>(
 ) -> Next
     requires room { length headers.old ≡ 5500 }
     ensures room { length headers.new ≡ 5500 }
-    ensures reads { Reads buffer.old (L.Source.source link.old) result buffer.new (L.Source.source link.new) }
+    ensures reads { Reads buffer.old (L.Source.source link.old) result buffer.new
+        (L.Source.source link.new) }
 {
     match read_head(buffer, headers, link) {
         HeadRead::Head(spans) => read_message(alloc, buffer, headers, spans, link),
@@ -89,7 +91,8 @@ fn read_message<L: Link>(
     link: &mut L,
 ) -> Next
     requires head { HeadAt buffer.old headers.now spans }
-    ensures reads { Reads buffer.old (L.Source.source link.old) result buffer.new (L.Source.source link.new) }
+    ensures reads { Reads buffer.old (L.Source.source link.old) result buffer.new
+        (L.Source.source link.new) }
 {
     match read_start(alloc, buffer.bytes(), headers, spans) {
         StartRead::Start(start) => {
@@ -103,7 +106,8 @@ fn read_message<L: Link>(
 
 /// Asks for the body, if that is due, and reads it.
 fn read_rest<L: Link>(alloc: Global, buffer: &mut Buffer, start: Start, link: &mut L) -> Next
-    ensures { ReadsRest start buffer.old (L.Source.source link.old) result buffer.new (L.Source.source link.new) }
+    ensures { ReadsRest start buffer.old (L.Source.source link.old) result buffer.new
+        (L.Source.source link.new) }
 {
     if fails_to_ask(link, start.plan.due) {
         return Next::WriteFault;
@@ -124,9 +128,11 @@ fn fails_to_ask<S: Sink>(sink: &mut S, is_due: bool) -> bool
 
 /// Reads the body.
 fn read_body<S: Source>(alloc: Global, buffer: &mut Buffer, start: Start, source: &mut S) -> Next
-    ensures read { IsBodyNext start result buffer.old (S.source source.old) buffer.new (S.source source.new) }
+    ensures read { IsBodyNext start result buffer.old (S.source source.old) buffer.new
+        (S.source source.new) }
     ensures keeps { KeepsGiven (S.source source.old) (S.source source.new) }
-    ensures calm { (result ≡ Next.ReadFault → ⊥) → IsCalm (S.source source.old) (S.source source.new) }
+    ensures calm { (result ≡ Next.ReadFault → ⊥)
+        → IsCalm (S.source source.old) (S.source source.new) }
 {
     let Start {
         method,
@@ -153,9 +159,11 @@ fn read_content<S: Source>(
     body: Body,
     source: &mut S,
 ) -> BodyRead
-    ensures read { IsBodyRead body result buffer.old (S.source source.old) buffer.new (S.source source.new) }
+    ensures read { IsBodyRead body result buffer.old (S.source source.old) buffer.new
+        (S.source source.new) }
     ensures keeps { KeepsGiven (S.source source.old) (S.source source.new) }
-    ensures calm { (result ≡ BodyRead.Fault → ⊥) → IsCalm (S.source source.old) (S.source source.new) }
+    ensures calm { (result ≡ BodyRead.Fault → ⊥)
+        → IsCalm (S.source source.old) (S.source source.new) }
 {
     match body {
         Body::Sized(size) => read_sized(alloc, buffer, source, size),

@@ -19,7 +19,9 @@ pub(crate) enum Byte {
 
 /// Takes the next byte, if one is still allowed.
 pub(crate) fn next_byte<S: Source>(buffer: &mut Buffer, source: &mut S, allowed: &mut u64) -> Byte
-    ensures byte { IsByte result (S.source source.old) (spot allowed.old buffer.old (S.source source.old)) (S.source source.new) (spot allowed.new buffer.new (S.source source.new)) }
+    ensures byte { IsByte result (S.source source.old)
+        (spot allowed.old buffer.old (S.source source.old)) (S.source source.new)
+        (spot allowed.new buffer.new (S.source source.new)) }
     ensures keeps { KeepsGiven (S.source source.old) (S.source source.new) }
     ensures calm { (result ≡ Byte.Fault → ⊥) → IsCalm (S.source source.old) (S.source source.new) }
 {
@@ -41,7 +43,8 @@ pub(crate) fn next_byte<S: Source>(buffer: &mut Buffer, source: &mut S, allowed:
 pub(crate) fn hold_byte<S: Source>(buffer: &mut Buffer, source: &mut S) -> Filled
     ensures moved { Moved buffer.old (S.source source.old) buffer.new (S.source source.new) }
     ensures held { IsHeld result buffer.new (S.source source.old) (S.source source.new) }
-    ensures calm { (result ≡ Filled.Fault → ⊥) → IsCalm (S.source source.old) (S.source source.new) }
+    ensures calm { (result ≡ Filled.Fault → ⊥)
+        → IsCalm (S.source source.old) (S.source source.new) }
 {
     if buffer.bytes().is_empty() {
         buffer.fill(source)

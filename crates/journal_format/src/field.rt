@@ -37,7 +37,8 @@ pub trait Field: Sized {
 
     /// Reads it from the front of the bytes, and gives what stands behind it.
     fn read(alloc: Global, bytes: &[u8]) -> Result<(Self, &[u8]), RecordFault>
-        ensures { GivesBut RecordFault.OutOfMemory (λ x. (x.0, x.1.now)) result (reading bytes.now) };
+        ensures { GivesBut RecordFault.OutOfMemory (λ x. (x.0, x.1.now)) result
+            (reading bytes.now) };
 }
 
 /// How many bytes these take, one behind the other.
@@ -73,7 +74,8 @@ pub fn read_times<T: Field + Drop>(
     count: u32,
     bytes: &[u8],
 ) -> Result<(Vec<T>, &[u8]), RecordFault>
-    ensures { GivesBut RecordFault.OutOfMemory (λ x. (x.0.items, x.1.now)) result (times T.reading count [] bytes.now) }
+    ensures { GivesBut RecordFault.OutOfMemory (λ x. (x.0.items, x.1.now)) result
+        (times T.reading count [] bytes.now) }
 {
     let mut found = Vec::new(alloc);
     let mut rest = bytes;
@@ -98,9 +100,11 @@ pub fn length_counted<T: Field>(width: usize, fields: &[T]) -> u64
 #[tactic(auto, using(crate::proofs::Writes::length_of_counted), unfolding(crate::specs::Spelling::counted))]
 pub fn put_counted<T: Field>(width: usize, fields: &[T], into: &mut Vec<u8>)
     requires width { width ≤ 8 }
-    requires room { vec_len into.old + length (counted width T.spelling fields.now) ≤ vec_capacity into.old }
+    requires room { vec_len into.old + length (counted width T.spelling fields.now) ≤ vec_capacity
+        into.old }
     ensures items { into.new.items ≡ into.old.items ++ counted width T.spelling fields.now }
-    ensures len { vec_len into.new ≡ vec_len into.old + length (counted width T.spelling fields.now) }
+    ensures len { vec_len into.new ≡ vec_len into.old + length
+        (counted width T.spelling fields.now) }
     ensures capacity { vec_capacity into.old ≤ vec_capacity into.new }
     ensures writable { All T.writable fields.now }
 {
@@ -114,7 +118,8 @@ pub fn read_counted<T: Field + Drop>(
     alloc: Global,
     bytes: &[u8],
 ) -> Result<(Vec<T>, &[u8]), RecordFault>
-    ensures { GivesBut RecordFault.OutOfMemory (λ x. (x.0.items, x.1.now)) result (counted_at 4 T.reading bytes.now) }
+    ensures { GivesBut RecordFault.OutOfMemory (λ x. (x.0.items, x.1.now)) result
+        (counted_at 4 T.reading bytes.now) }
 {
     let (count, rest) = u32_at(bytes)?;
     read_times(alloc, count, rest)
@@ -126,7 +131,8 @@ pub fn read_few<T: Field + Drop>(
     alloc: Global,
     bytes: &[u8],
 ) -> Result<(Vec<T>, &[u8]), RecordFault>
-    ensures { GivesBut RecordFault.OutOfMemory (λ x. (x.0.items, x.1.now)) result (counted_at 2 T.reading bytes.now) }
+    ensures { GivesBut RecordFault.OutOfMemory (λ x. (x.0.items, x.1.now)) result
+        (counted_at 2 T.reading bytes.now) }
 {
     let (count, rest) = u16_at(bytes)?;
     read_times(alloc, u32::from(count), rest)

@@ -62,7 +62,8 @@ pub fn first_of(bytes: &[u8]) -> Result<(u8, &[u8]), RecordFault>
 /// The next number of 16 bits.
 #[tactic(auto, unfolding(crate::specs::Numbers::number_at))]
 pub fn u16_at(bytes: &[u8]) -> Result<(u16, &[u8]), RecordFault>
-    ensures { GivesBut RecordFault.OutOfMemory (λ x. (x.0, x.1.now)) result (number_at 2 bytes.now) }
+    ensures { GivesBut RecordFault.OutOfMemory (λ x. (x.0, x.1.now)) result
+        (number_at 2 bytes.now) }
 {
     if bytes.len() < 2 {
         return Err(RecordFault::Cut);
@@ -73,7 +74,8 @@ pub fn u16_at(bytes: &[u8]) -> Result<(u16, &[u8]), RecordFault>
 /// The next number of 32 bits.
 #[tactic(auto, unfolding(crate::specs::Numbers::number_at))]
 pub fn u32_at(bytes: &[u8]) -> Result<(u32, &[u8]), RecordFault>
-    ensures { GivesBut RecordFault.OutOfMemory (λ x. (x.0, x.1.now)) result (number_at 4 bytes.now) }
+    ensures { GivesBut RecordFault.OutOfMemory (λ x. (x.0, x.1.now)) result
+        (number_at 4 bytes.now) }
 {
     if bytes.len() < 4 {
         return Err(RecordFault::Cut);
@@ -84,7 +86,8 @@ pub fn u32_at(bytes: &[u8]) -> Result<(u32, &[u8]), RecordFault>
 /// The next number of 64 bits.
 #[tactic(auto, unfolding(crate::specs::Numbers::number_at))]
 pub fn u64_at(bytes: &[u8]) -> Result<(u64, &[u8]), RecordFault>
-    ensures { GivesBut RecordFault.OutOfMemory (λ x. (x.0, x.1.now)) result (number_at 8 bytes.now) }
+    ensures { GivesBut RecordFault.OutOfMemory (λ x. (x.0, x.1.now)) result
+        (number_at 8 bytes.now) }
 {
     if bytes.len() < 8 {
         return Err(RecordFault::Cut);

@@ -32,7 +32,8 @@ fn truth_at(bytes: &[u8]) -> Result<(bool, &[u8]), RecordFault>
 /// The value that is a point.
 #[tactic(auto, unfolding(crate::specs::Reading::point_value_at, crate::specs::Reading::point_at, crate::specs::Reading::shaped))]
 fn point_value_at(bytes: &[u8]) -> Result<(Value, &[u8]), RecordFault>
-    ensures { GivesBut RecordFault.OutOfMemory (λ x. (x.0, x.1.now)) result (point_value_at bytes.now) }
+    ensures { GivesBut RecordFault.OutOfMemory (λ x. (x.0, x.1.now)) result
+        (point_value_at bytes.now) }
 {
     let ((x, y), rest) = pair_at(bytes)?;
     match Pos::new(i64::from(x), i64::from(y)) {
@@ -44,7 +45,8 @@ fn point_value_at(bytes: &[u8]) -> Result<(Value, &[u8]), RecordFault>
 /// A value behind its kind.
 #[tactic(auto, unfolding(crate::specs::Reading::value_of))]
 fn value_of(alloc: Global, kind: u8, bytes: &[u8]) -> Result<(Value, &[u8]), RecordFault>
-    ensures { GivesBut RecordFault.OutOfMemory (λ x. (x.0, x.1.now)) result (value_of kind bytes.now) }
+    ensures { GivesBut RecordFault.OutOfMemory (λ x. (x.0, x.1.now)) result
+        (value_of kind bytes.now) }
 {
     if kind == 0 {
         return Ok((Value::Null, bytes));
@@ -201,7 +203,8 @@ fn remove_at(alloc: Global, bytes: &[u8]) -> Result<(Part, &[u8]), RecordFault>
 /// A change of one feature behind its kind.
 #[tactic(auto, unfolding(crate::specs::Reading::part_of))]
 fn part_of(alloc: Global, kind: u8, bytes: &[u8]) -> Result<(Part, &[u8]), RecordFault>
-    ensures { GivesBut RecordFault.OutOfMemory (λ x. (x.0, x.1.now)) result (part_of kind bytes.now) }
+    ensures { GivesBut RecordFault.OutOfMemory (λ x. (x.0, x.1.now)) result
+        (part_of kind bytes.now) }
 {
     if kind == 1 {
         return put_at(alloc, bytes);

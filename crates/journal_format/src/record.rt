@@ -41,7 +41,8 @@ pub fn record_length(change: &Change, signature: &Text) -> u64
 /// Writes the body of the change where there is room for it.
 #[tactic(auto, unfolding(crate::specs::Spelling::body_of))]
 fn put_body(change: &Change, signature: &Text, into: &mut Vec<u8>)
-    requires { vec_len into.old + length (body_of change.now signature.now) ≤ vec_capacity into.old }
+    requires { vec_len into.old + length (body_of change.now signature.now) ≤ vec_capacity
+        into.old }
     ensures items { into.new.items ≡ into.old.items ++ body_of change.now signature.now }
     ensures writable { IsWritable change.now signature.now }
 {
@@ -128,7 +129,8 @@ fn plain(change: Change) -> Recorded
 /// A change behind its kind.
 #[tactic(auto, unfolding(crate::specs::Reading::change_of))]
 fn change_of(alloc: Global, kind: u8, bytes: &[u8]) -> Result<(Recorded, &[u8]), RecordFault>
-    ensures { GivesBut RecordFault.OutOfMemory (λ x. (x.0, x.1.now)) result (change_of kind bytes.now) }
+    ensures { GivesBut RecordFault.OutOfMemory (λ x. (x.0, x.1.now)) result
+        (change_of kind bytes.now) }
 {
     if kind == 1 {
         return opening_at(alloc, bytes);

@@ -121,7 +121,8 @@ impl Field for Ring {
 /// The shell and the holes, where there are so many rings.
 #[tactic(auto, unfolding(crate::specs::Reading::rings_at, crate::specs::Reading::shaped))]
 fn rings_at(alloc: Global, count: u32, bytes: &[u8]) -> Result<(Polygon, &[u8]), RecordFault>
-    ensures { GivesBut RecordFault.OutOfMemory (λ x. (x.0, x.1.now)) result (rings_at count bytes.now) }
+    ensures { GivesBut RecordFault.OutOfMemory (λ x. (x.0, x.1.now)) result
+        (rings_at count bytes.now) }
 {
     if count == 0 {
         return Err(RecordFault::Kind);

@@ -24,7 +24,8 @@ fn words_of(alloc: Global, bytes: &[u8]) -> Result<Text, RecordFault>
 /// The text in the next `size` bytes.
 #[tactic(auto, unfolding(crate::specs::Reading::words_at))]
 fn words_at(alloc: Global, size: u32, bytes: &[u8]) -> Result<(Text, &[u8]), RecordFault>
-    ensures { GivesBut RecordFault.OutOfMemory (λ x. (x.0, x.1.now)) result (words_at size bytes.now) }
+    ensures { GivesBut RecordFault.OutOfMemory (λ x. (x.0, x.1.now)) result
+        (words_at size bytes.now) }
 {
     if bytes.len() < size as usize {
         return Err(RecordFault::Cut);

@@ -27,7 +27,8 @@ fn recorded_in(alloc: Global, body: &[u8]) -> Result<Recorded, ReplayFault>
 
 // Whether a signature, where there is one, is this one of the schema.
 fn is_signed(found: &Option<Text>, signature: &Text) -> bool
-    ensures { (schema : Schema) → signature.now ≡ signature_text schema → result ≡ is_signed schema found.now }
+    ensures { (schema : Schema) → signature.now ≡ signature_text schema
+        → result ≡ is_signed schema found.now }
 {
     match found {
         Some(found) => found.as_str() == signature.as_str(),

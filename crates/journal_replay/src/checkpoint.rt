@@ -52,7 +52,10 @@ impl<'a> Model for CheckpointSource<'a> {
 
     ghost coded = { Prim.hlevel (codes, filter_row.the_row.coded) };
 
-    ghost view = { λ s. record { schema = s.features.now.schema; left = changes_left s.features.now.kept s.place } };
+    ghost view = { λ s. record {
+      schema = s.features.now.schema;
+      left = changes_left s.features.now.kept s.place;
+    } };
 
     ghost invariant = { λ s. s.signature ≡ signature_text s.features.now.schema };
 }
@@ -60,7 +63,8 @@ impl<'a> Model for CheckpointSource<'a> {
 // ---- changes
 
 fn base(alloc: Global, features: &Features) -> Mem<Change>
-    ensures { IfOk result (λ change. change ≡ Change.Base features.now.kept.opening features.now.kept.counters) }
+    ensures { IfOk result (λ change. change ≡ Change.Base features.now.kept.opening
+        features.now.kept.counters) }
 {
     Ok(Change::Base {
         opening: features.openings(),
@@ -70,8 +74,10 @@ fn base(alloc: Global, features: &Features) -> Mem<Change>
 
 // The next features behind one, or from the first on, as they are put, and behind which the others stand.
 fn rows(alloc: Global, features: &Features, after: Option<Rid>) -> Mem<(List<Part>, Option<Rid>)>
-    ensures parts { IfOk result (λ r. r.0 ≡ map PutPart (take most_rows (behind after features.now.kept.features))) }
-    ensures rest { IfOk result (λ r. behind r.1 features.now.kept.features ≡ drop most_rows (behind after features.now.kept.features)) }
+    ensures parts { IfOk result (λ r. r.0 ≡ map PutPart
+        (take most_rows (behind after features.now.kept.features))) }
+    ensures rest { IfOk result (λ r. behind r.1 features.now.kept.features
+        ≡ drop most_rows (behind after features.now.kept.features)) }
 {
     let mut parts = Vec::new(alloc);
     let mut last = after;
@@ -156,7 +162,10 @@ impl<'a> CheckpointSource<'a> {
     ///
     /// `OutOfMemory`.
     pub fn new(alloc: Global, features: &'a Features) -> Mem<CheckpointSource<'a>>
-        ensures { IfOk result (λ s. s ≡ record { schema = features.now.schema; left = checkpoint_of features.now.kept }) }
+        ensures { IfOk result (λ s. s ≡ record {
+          schema = features.now.schema;
+          left = checkpoint_of features.now.kept;
+        }) }
     {
         Ok(CheckpointSource {
             alloc,

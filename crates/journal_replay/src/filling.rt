@@ -65,7 +65,8 @@ fn fill_one(
     found: &mut Vec<StoredQuery>,
     stored: &StoredQuery,
 ) -> Result<(), ReplayFault>
-    ensures { GivesBut NoMemory (λ _. found.new.items) result (next_filled schema.now found.old.items stored.now) }
+    ensures { GivesBut NoMemory (λ _. found.new.items) result
+        (next_filled schema.now found.old.items stored.now) }
 {
     let now = filled(alloc, schema, stored)?;
     push(found, now)?;

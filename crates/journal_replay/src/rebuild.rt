@@ -67,7 +67,8 @@ fn play(
     body: &[u8],
 ) -> Result<(), ReplayFault>
     requires { AreQueriesOf features.old.schema change }
-    ensures kept { GivesBut NoMemory (λ _. features.new.kept) result (kept_with features.old.schema is_first features.old.kept change) }
+    ensures kept { GivesBut NoMemory (λ _. features.new.kept) result
+        (kept_with features.old.schema is_first features.old.kept change) }
     ensures same { OnErr result (features.new.kept ≡ features.old.kept) }
     ensures schema { features.new.schema ≡ features.old.schema }
     ensures bodies { bodies.new ≡ taken_after result bodies.old body.now }
@@ -92,7 +93,8 @@ fn take(
     body: &[u8],
 ) -> Result<(), ReplayFault>
     requires { signature.now ≡ signature_text features.old.schema }
-    ensures kept { GivesBut NoMemory (λ _. features.new.kept) result (kept_after features.old.schema is_first features.old.kept body.now) }
+    ensures kept { GivesBut NoMemory (λ _. features.new.kept) result
+        (kept_after features.old.schema is_first features.old.kept body.now) }
     ensures same { OnErr result (features.new.kept ≡ features.old.kept) }
     ensures schema { features.new.schema ≡ features.old.schema }
     ensures bodies { bodies.new ≡ taken_after result bodies.old body.now }

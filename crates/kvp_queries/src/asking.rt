@@ -21,7 +21,8 @@ use wfs_model::{AskFault, Asked, refused};
 // Features come with all their properties.
 #[tactic(auto, unfolding(crate::specs::Asking::property_name_of, wfs_ends::specs::Read::unless))]
 fn property_name_of(alloc: Global, listed: &Listed) -> Result<(), AskFault>
-    ensures { GivesBut AskFault.OutOfMemory (λ x. x) result (property_name_of (said_by listed.now.pairs)) }
+    ensures { GivesBut AskFault.OutOfMemory (λ x. x) result
+        (property_name_of (said_by listed.now.pairs)) }
 {
     let Some(text) = listed.value_of("propertyName") else {
         return Ok(());
@@ -40,7 +41,8 @@ fn sorted_of(
     kind: Option<u32>,
     listed: &Listed,
 ) -> Result<List<SortKey>, AskFault>
-    ensures { GivesBut AskFault.OutOfMemory (λ sort. sort) result (sorted_of schema.now kind (said_by listed.now.pairs)) }
+    ensures { GivesBut AskFault.OutOfMemory (λ sort. sort) result
+        (sorted_of schema.now kind (said_by listed.now.pairs)) }
 {
     let sort = keys_of(alloc, schema, kind, listed)?;
     property_name_of(alloc, listed)?;
@@ -50,7 +52,8 @@ fn sorted_of(
 // A type, a choice among its features, and their order.
 #[tactic(auto, unfolding(crate::specs::Asking::query_of, crate::specs::Asking::sorted_of))]
 pub(crate) fn query_of(alloc: Global, schema: &Schema, listed: &Listed) -> Result<Query, AskFault>
-    ensures { GivesBut AskFault.OutOfMemory (λ q. q) result (query_of schema.now (said_by listed.now.pairs)) }
+    ensures { GivesBut AskFault.OutOfMemory (λ q. q) result
+        (query_of schema.now (said_by listed.now.pairs)) }
 {
     let kind = type_of(alloc, schema, listed)?;
     srs_of(alloc, schema.srs.items(), listed)?;
@@ -109,7 +112,8 @@ fn asked_by(
     listed: &Listed,
     query: Query,
 ) -> Mem<Asked>
-    ensures { IfOk result (λ asked. asked ≡ asked_by operation pairs.now (said_by listed.now.pairs) query) }
+    ensures { IfOk result (λ asked. asked ≡ asked_by operation pairs.now (said_by listed.now.pairs)
+        query) }
 {
     match listed.value_of("storedQuery_id") {
         None => Ok(Asked::Plain(query)),
@@ -125,7 +129,8 @@ pub(crate) fn all_asked(
     listed: &Listed,
     query: Query,
 ) -> Mem<List<Asked>>
-    ensures { IfOk result (λ all. all ≡ asked_by operation pairs.now (said_by listed.now.pairs) query ∷ []) }
+    ensures { IfOk result (λ all. all ≡ asked_by operation pairs.now (said_by listed.now.pairs)
+        query ∷ []) }
 {
     let asked = asked_by(alloc, operation, pairs, listed, query)?;
     one(alloc, asked)
@@ -163,7 +168,11 @@ fn valued_parameters(alloc: Global, pairs: &[(Text, Text)], name: Text) -> Mem<L
 
 // The use of a stored query whose features' values are asked for.
 fn valued_stored(alloc: Global, pairs: &[(Text, Text)], id: &Text, name: Text) -> Mem<(Asked, u32)>
-    ensures { IfOk result (λ x. x ≡ (Stored id.now (([], name) ∷ parameters_of GetPropertyValue pairs.now), 0)) }
+    ensures { IfOk result (λ x. x ≡ (
+      Stored id.now
+          (([], name) ∷ parameters_of GetPropertyValue pairs.now),
+      0,
+    )) }
 {
     let given = valued_parameters(alloc, pairs, name)?;
     let id = id.copy(alloc)?;
@@ -177,7 +186,8 @@ fn valued_plain(
     query: Query,
     name: &str,
 ) -> Result<(Asked, u32), AskFault>
-    ensures { GivesBut AskFault.OutOfMemory (λ x. x) result (valued schema.now [] query name.now None) }
+    ensures { GivesBut AskFault.OutOfMemory (λ x. x) result
+        (valued schema.now [] query name.now None) }
 {
     let property = property_of(alloc, schema, query.kind, name)?;
     Ok((Asked::Plain(query), property))
@@ -192,7 +202,8 @@ pub(crate) fn valued(
     query: Query,
     name: Text,
 ) -> Result<(Asked, u32), AskFault>
-    ensures { GivesBut AskFault.OutOfMemory (λ x. x) result (valued schema.now pairs.now query name (stored_id (said_by listed.now.pairs))) }
+    ensures { GivesBut AskFault.OutOfMemory (λ x. x) result
+        (valued schema.now pairs.now query name (stored_id (said_by listed.now.pairs))) }
 {
     match listed.value_of("storedQuery_id") {
         None => valued_plain(alloc, schema, query, name.as_str()),

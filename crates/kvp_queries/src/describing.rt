@@ -17,7 +17,8 @@ use wfs_model::{AskFault, Request};
 // GetCapabilities.
 #[tactic(auto, unfolding(crate::specs::Request::capabilities_of))]
 pub(crate) fn capabilities_of(alloc: Global, listed: &Listed) -> Result<Request, AskFault>
-    ensures { GivesBut AskFault.OutOfMemory (λ r. r) result (capabilities_of (said_by listed.now.pairs)) }
+    ensures { GivesBut AskFault.OutOfMemory (λ r. r) result
+        (capabilities_of (said_by listed.now.pairs)) }
 {
     let versions = items_if(alloc, listed.value_of("acceptVersions"))?;
     negotiated(alloc, &versions)?;
@@ -39,7 +40,8 @@ fn add_type(
     kinds: &mut Vec<u32>,
     name: &Text,
 ) -> Result<(), AskFault>
-    ensures { GivesBut AskFault.OutOfMemory (λ _. kinds.new.items) result (next_type schema.now kinds.old.items name.now) }
+    ensures { GivesBut AskFault.OutOfMemory (λ _. kinds.new.items) result
+        (next_type schema.now kinds.old.items name.now) }
 {
     let kind = kind_of(alloc, schema, "typeNames", name.as_str())?;
     push_type(kinds, kind)?;
@@ -47,7 +49,8 @@ fn add_type(
 }
 
 fn all_types(alloc: Global, schema: &Schema, names: &[Text]) -> Result<Vec<u32>, AskFault>
-    ensures { GivesBut AskFault.OutOfMemory (λ v. v.items) result (each (next_type schema.now) [] names.now) }
+    ensures { GivesBut AskFault.OutOfMemory (λ v. v.items) result
+        (each (next_type schema.now) [] names.now) }
 {
     let mut kinds = Vec::new(alloc);
     for name in names {
@@ -59,7 +62,8 @@ fn all_types(alloc: Global, schema: &Schema, names: &[Text]) -> Result<Vec<u32>,
 // DescribeFeatureType.
 #[tactic(auto, unfolding(crate::specs::Request::types_of))]
 pub(crate) fn types_of(alloc: Global, schema: &Schema, listed: &Listed) -> Result<Request, AskFault>
-    ensures { GivesBut AskFault.OutOfMemory (λ r. r) result (types_of schema.now (said_by listed.now.pairs)) }
+    ensures { GivesBut AskFault.OutOfMemory (λ r. r) result
+        (types_of schema.now (said_by listed.now.pairs)) }
 {
     let names = items_if(alloc, type_names_of(listed))?;
     let kinds = all_types(alloc, schema, &names)?;
@@ -70,7 +74,8 @@ pub(crate) fn types_of(alloc: Global, schema: &Schema, listed: &Listed) -> Resul
 // DescribeStoredQueries.
 #[tactic(auto, unfolding(crate::specs::Request::described_of))]
 pub(crate) fn described_of(alloc: Global, listed: &Listed) -> Result<Request, AskFault>
-    ensures { GivesBut AskFault.OutOfMemory (λ r. r) result (described_of (said_by listed.now.pairs)) }
+    ensures { GivesBut AskFault.OutOfMemory (λ r. r) result
+        (described_of (said_by listed.now.pairs)) }
 {
     let ids = items_if(alloc, listed.value_of("storedQuery_id"))?;
     Ok(Request::DescribeStored(List::of(ids)))

@@ -31,7 +31,8 @@ pub(crate) fn features_of(
     pairs: &[(Text, Text)],
     listed: &Listed,
 ) -> Result<Request, AskFault>
-    ensures { GivesBut AskFault.OutOfMemory (λ r. r) result (features_of schema.now pairs.now (said_by listed.now.pairs)) }
+    ensures { GivesBut AskFault.OutOfMemory (λ r. r) result
+        (features_of schema.now pairs.now (said_by listed.now.pairs)) }
 {
     let page = page_of(alloc, listed)?;
     let query = query_of(alloc, schema, listed)?;
@@ -44,7 +45,8 @@ pub(crate) fn features_of(
 // The name of the property whose values are asked for, where enough is named.
 #[tactic(auto, unfolding(crate::specs::Request::reference_of))]
 fn reference_of(alloc: Global, listed: &Listed) -> Result<Text, AskFault>
-    ensures { GivesBut AskFault.OutOfMemory (λ x. x) result (reference_of (said_by listed.now.pairs)) }
+    ensures { GivesBut AskFault.OutOfMemory (λ x. x) result
+        (reference_of (said_by listed.now.pairs)) }
 {
     let name = required_of(alloc, listed, "valueReference")?;
     enough_of(alloc, listed)?;
@@ -59,7 +61,8 @@ pub(crate) fn values_of(
     pairs: &[(Text, Text)],
     listed: &Listed,
 ) -> Result<Request, AskFault>
-    ensures { GivesBut AskFault.OutOfMemory (λ r. r) result (values_of schema.now pairs.now (said_by listed.now.pairs)) }
+    ensures { GivesBut AskFault.OutOfMemory (λ r. r) result
+        (values_of schema.now pairs.now (said_by listed.now.pairs)) }
 {
     let page = page_of(alloc, listed)?;
     let query = query_of(alloc, schema, listed)?;

@@ -36,7 +36,10 @@ fn stays(name: &str) -> bool
 
 // Writes a pair, if it stays.
 fn add_pair(form: &mut Serializer<Global>, name: &str, value: &str) -> Mem<()>
-    ensures { OnOk result (form.new ≡ record form.old { form = extend_pairs form.old.form (filter (λ p. stays p.0) ((name.now, value.now) ∷ [])) }) }
+    ensures { OnOk result (form.new ≡ record form.old {
+      form = extend_pairs form.old.form
+          (filter (λ p. stays p.0) ((name.now, value.now) ∷ []));
+    }) }
 {
     if stays(name) {
         form.append_pair(name, value)?;

@@ -19,7 +19,8 @@ pub(crate) fn has_comma(text: &str) -> bool
 // The part before the first comma, and what stands behind it.
 #[tactic(auto, using(crate::proofs::Splits::first_part, crate::proofs::Splits::one_part))]
 pub(crate) fn cut(text: &str) -> Option<(&str, &str)>
-    ensures parts { MatchOption result (slice_split is_comma text.now ≡ text.now ∷ []) (λ x. slice_split is_comma text.now ≡ x.0.now ∷ slice_split is_comma x.1.now) }
+    ensures parts { MatchOption result (slice_split is_comma text.now ≡ text.now ∷ [])
+        (λ x. slice_split is_comma text.now ≡ x.0.now ∷ slice_split is_comma x.1.now) }
     ensures text { IfSome result (λ x. IsUtf8 x.1.now) }
     ensures shorter { IfSome result (λ x. length x.1.now < length text.now) }
 {

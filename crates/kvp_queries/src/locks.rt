@@ -33,7 +33,8 @@ pub(crate) fn locked_of(
     pairs: &[(Text, Text)],
     listed: &Listed,
 ) -> Result<Request, AskFault>
-    ensures { GivesBut AskFault.OutOfMemory (λ r. r) result (locked_of schema.now pairs.now (said_by listed.now.pairs)) }
+    ensures { GivesBut AskFault.OutOfMemory (λ r. r) result
+        (locked_of schema.now pairs.now (said_by listed.now.pairs)) }
 {
     let page = locked_page_of(alloc, listed)?;
     let query = query_of(alloc, schema, listed)?;
@@ -50,7 +51,8 @@ pub(crate) fn locked_of(
 // How long a new lock lives, where enough is named.
 #[tactic(auto, unfolding(crate::specs::Request::new_period))]
 fn new_period(alloc: Global, listed: &Listed) -> Result<u32, AskFault>
-    ensures { GivesBut AskFault.OutOfMemory (λ x. x) result (new_period (said_by listed.now.pairs)) }
+    ensures { GivesBut AskFault.OutOfMemory (λ x. x) result
+        (new_period (said_by listed.now.pairs)) }
 {
     enough_of(alloc, listed)?;
     period_of(alloc, listed)
@@ -65,7 +67,8 @@ fn new_lock(
     listed: &Listed,
     take: Take,
 ) -> Result<Request, AskFault>
-    ensures { GivesBut AskFault.OutOfMemory (λ r. r) result (new_lock schema.now pairs.now (said_by listed.now.pairs) take) }
+    ensures { GivesBut AskFault.OutOfMemory (λ r. r) result
+        (new_lock schema.now pairs.now (said_by listed.now.pairs) take) }
 {
     let query = query_of(alloc, schema, listed)?;
     let period = new_period(alloc, listed)?;
@@ -116,7 +119,8 @@ fn renewed(
     lock: LockId,
     expiry: Option<u32>,
 ) -> Result<Request, AskFault>
-    ensures { GivesBut AskFault.OutOfMemory (λ r. r) result (renewed (said_by listed.now.pairs) lock expiry) }
+    ensures { GivesBut AskFault.OutOfMemory (λ r. r) result
+        (renewed (said_by listed.now.pairs) lock expiry) }
 {
     if asks_for_features(listed) {
         return Err(refused(alloc, 11, "lockId"));
@@ -135,7 +139,8 @@ pub(crate) fn lock_asked(
     pairs: &[(Text, Text)],
     listed: &Listed,
 ) -> Result<Request, AskFault>
-    ensures { GivesBut AskFault.OutOfMemory (λ r. r) result (lock_asked schema.now pairs.now (said_by listed.now.pairs)) }
+    ensures { GivesBut AskFault.OutOfMemory (λ r. r) result
+        (lock_asked schema.now pairs.now (said_by listed.now.pairs)) }
 {
     let lock = lock_of(alloc, listed)?;
     let expiry = expiry_of(alloc, listed)?;

@@ -91,7 +91,8 @@ fn other_name(name: &str) -> Option<&'static str>
 
 // A name that not all operations list.
 fn own_name(name: &str) -> Option<&'static str>
-    ensures { option_map (λ n. n.now) result ≡ or_else (page_name name.now) (or_else (query_name name.now) (other_name name.now)) }
+    ensures { option_map (λ n. n.now) result ≡ or_else (page_name name.now)
+        (or_else (query_name name.now) (other_name name.now)) }
 {
     if let Some(listed) = page_name(name) {
         return Some(listed);

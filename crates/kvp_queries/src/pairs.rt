@@ -59,7 +59,8 @@ fn push_decoded(
     name: CowStr<'_>,
     value: CowStr<'_>,
 ) -> Mem<()>
-    ensures { OnOk result (pairs.new.items ≡ pairs.old.items ++ (cow_str_bytes name.entry, cow_str_bytes value.entry) ∷ []) }
+    ensures { OnOk result (pairs.new.items ≡ pairs.old.items
+        ++ (cow_str_bytes name.entry, cow_str_bytes value.entry) ∷ []) }
 {
     let name = Text::of(alloc, name.as_str())?;
     let value = Text::of(alloc, value.as_str())?;
@@ -125,7 +126,8 @@ fn push_copy(alloc: Global, pairs: &mut Vec<(Text, Text)>, pair: &(Text, Text)) 
 // Adds a pair, which may not repeat one before it.
 #[tactic(auto, unfolding(crate::specs::Pairs::added, wfs_ends::specs::Read::unless))]
 fn add(alloc: Global, before: &mut Vec<(Text, Text)>, pair: &(Text, Text)) -> Result<(), AskFault>
-    ensures { GivesBut AskFault.OutOfMemory (λ _. before.new.items) result (added before.old.items pair.now) }
+    ensures { GivesBut AskFault.OutOfMemory (λ _. before.new.items) result
+        (added before.old.items pair.now) }
 {
     if is_repeated(before, pair.0.as_str(), pair.1.as_str()) {
         return Err(refused(alloc, 8, repeated_name(pair.0.as_str())));
@@ -141,7 +143,8 @@ fn add_listed(
     before: &mut Vec<(Text, Text)>,
     pair: &(Text, Text),
 ) -> Result<(), AskFault>
-    ensures { GivesBut AskFault.OutOfMemory (λ _. before.new.items) result (next_listed before.old.items pair.now) }
+    ensures { GivesBut AskFault.OutOfMemory (λ _. before.new.items) result
+        (next_listed before.old.items pair.now) }
 {
     if !is_listed(pair.0.as_str(), pair.1.as_str()) {
         return Ok(());
@@ -182,7 +185,8 @@ fn add_parameter(
     found: &mut Vec<(Text, Text)>,
     pair: &(Text, Text),
 ) -> Mem<()>
-    ensures { OnOk result (found.new.items ≡ found.old.items ++ parameters_of operation (pair.now ∷ [])) }
+    ensures { OnOk result (found.new.items ≡ found.old.items
+        ++ parameters_of operation (pair.now ∷ [])) }
 {
     if is_parameter(operation, pair.0.as_str(), pair.1.as_str()) {
         push_copy(alloc, found, pair)?;

@@ -19,7 +19,8 @@ use wfs_model::{AskFault, Request, refused};
 
 // The version, which GetCapabilities agrees on by itself.
 fn version_for(alloc: Global, operation: Operation, listed: &Listed) -> Result<(), AskFault>
-    ensures { GivesBut AskFault.OutOfMemory (λ x. x) result (version_for operation (said_by listed.now.pairs)) }
+    ensures { GivesBut AskFault.OutOfMemory (λ x. x) result
+        (version_for operation (said_by listed.now.pairs)) }
 {
     match operation {
         Operation::GetCapabilities => Ok(()),
@@ -47,7 +48,8 @@ fn request_of(
     listed: &Listed,
     operation: Operation,
 ) -> Result<Request, AskFault>
-    ensures { GivesBut AskFault.OutOfMemory (λ r. r) result (request_of schema.now pairs.now (said_by listed.now.pairs) operation) }
+    ensures { GivesBut AskFault.OutOfMemory (λ r. r) result
+        (request_of schema.now pairs.now (said_by listed.now.pairs) operation) }
 {
     match operation {
         Operation::GetCapabilities => capabilities_of(alloc, listed),
@@ -73,7 +75,8 @@ fn judged(
     pairs: &[(Text, Text)],
     listed: &Listed,
 ) -> Result<Request, AskFault>
-    ensures { GivesBut AskFault.OutOfMemory (λ r. r) result (judged schema.now pairs.now (said_by listed.now.pairs)) }
+    ensures { GivesBut AskFault.OutOfMemory (λ r. r) result
+        (judged schema.now pairs.now (said_by listed.now.pairs)) }
 {
     let operation = base_of(alloc, listed)?;
     request_of(alloc, schema, pairs, listed, operation)

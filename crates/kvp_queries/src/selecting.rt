@@ -54,7 +54,8 @@ pub(crate) fn type_of(
     schema: &Schema,
     listed: &Listed,
 ) -> Result<Option<u32>, AskFault>
-    ensures { GivesBut AskFault.OutOfMemory (λ k. k) result (type_of schema.now (said_by listed.now.pairs)) }
+    ensures { GivesBut AskFault.OutOfMemory (λ k. k) result
+        (type_of schema.now (said_by listed.now.pairs)) }
 {
     let Some(text) = type_names_of(listed) else {
         return Ok(None);
@@ -132,7 +133,8 @@ fn filter_of(
     kind: Option<u32>,
     root: &Element,
 ) -> Result<Filter, AskFault>
-    ensures { GivesBut AskFault.OutOfMemory (λ f. f) result (or_refusal (filter_of None schema.now kind root.now)) }
+    ensures { GivesBut AskFault.OutOfMemory (λ f. f) result
+        (or_refusal (filter_of None schema.now kind root.now)) }
 {
     match read_filter(alloc, root, kind, schema) {
         Ok(filter) => Ok(filter),
@@ -163,7 +165,8 @@ fn document_filter(
     kind: Option<u32>,
     listed: &Listed,
 ) -> Result<Option<Filter>, AskFault>
-    ensures { GivesBut AskFault.OutOfMemory (λ f. f) result (document_filter schema.now kind (said_by listed.now.pairs)) }
+    ensures { GivesBut AskFault.OutOfMemory (λ f. f) result
+        (document_filter schema.now kind (said_by listed.now.pairs)) }
 {
     let Some(text) = listed.value_of("filter") else {
         return Ok(None);
@@ -212,7 +215,8 @@ fn box_in(schema: &Schema, text: &str) -> Option<Box2>
 // The filter that a box stands for, where one is given.
 #[tactic(auto, unfolding(crate::specs::Selection::box_filter))]
 fn box_filter(alloc: Global, schema: &Schema, listed: &Listed) -> Result<Option<Filter>, AskFault>
-    ensures { GivesBut AskFault.OutOfMemory (λ f. f) result (box_filter schema.now (said_by listed.now.pairs)) }
+    ensures { GivesBut AskFault.OutOfMemory (λ f. f) result
+        (box_filter schema.now (said_by listed.now.pairs)) }
 {
     let Some(text) = listed.value_of("bbox") else {
         return Ok(None);
@@ -274,7 +278,8 @@ fn others(
     schema: &Schema,
     listed: &Listed,
 ) -> Result<(Option<Filter>, Option<Filter>), AskFault>
-    ensures { GivesBut AskFault.OutOfMemory (λ x. x) result (others schema.now (said_by listed.now.pairs)) }
+    ensures { GivesBut AskFault.OutOfMemory (λ x. x) result
+        (others schema.now (said_by listed.now.pairs)) }
 {
     let area = box_filter(alloc, schema, listed)?;
     let ids = ids_filter(alloc, schema, listed)?;
@@ -289,7 +294,8 @@ pub(crate) fn chosen(
     kind: Option<u32>,
     listed: &Listed,
 ) -> Result<Option<Filter>, AskFault>
-    ensures { GivesBut AskFault.OutOfMemory (λ f. f) result (chosen schema.now kind (said_by listed.now.pairs)) }
+    ensures { GivesBut AskFault.OutOfMemory (λ f. f) result
+        (chosen schema.now kind (said_by listed.now.pairs)) }
 {
     let filter = document_filter(alloc, schema, kind, listed)?;
     let (ids, area) = others(alloc, schema, listed)?;

@@ -31,7 +31,8 @@ fn name_and_word(part: &str) -> (&str, Option<&str>)
 
 // The property of a name, which has values that have an order.
 fn sortable(alloc: Global, of_type: &FeatureType, name: &str) -> Result<u32, AskFault>
-    ensures { GivesBut AskFault.OutOfMemory (λ p. p) result (sortable name.now (property_in (Some of_type.now) name.now)) }
+    ensures { GivesBut AskFault.OutOfMemory (λ p. p) result
+        (sortable name.now (property_in (Some of_type.now) name.now)) }
 {
     let Some((property, kind)) = property_in(Some(of_type), name) else {
         return Err(refused(alloc, 11, name));
@@ -57,7 +58,8 @@ fn order_word(word: &str) -> Option<bool>
 
 // Whether the order is descending.
 fn is_descending(alloc: Global, word: Option<&str>) -> Result<bool, AskFault>
-    ensures { GivesBut AskFault.OutOfMemory (λ b. b) result (is_descending (option_map (λ t. t.now) word.entry)) }
+    ensures { GivesBut AskFault.OutOfMemory (λ b. b) result
+        (is_descending (option_map (λ t. t.now) word.entry)) }
 {
     let Some(word) = word else {
         return Ok(false);
@@ -97,7 +99,8 @@ fn add_key(
     keys: &mut Vec<SortKey>,
     part: &str,
 ) -> Result<(), AskFault>
-    ensures { GivesBut AskFault.OutOfMemory (λ _. keys.new.items) result (next_key of_type.now keys.old.items part.now) }
+    ensures { GivesBut AskFault.OutOfMemory (λ _. keys.new.items) result
+        (next_key of_type.now keys.old.items part.now) }
 {
     let key = key_of(alloc, of_type, part)?;
     push_key(keys, key)?;
@@ -106,7 +109,8 @@ fn add_key(
 
 // The keys of a list with commas between them.
 fn keys_of_type(alloc: Global, of_type: &FeatureType, text: &str) -> Result<Vec<SortKey>, AskFault>
-    ensures { GivesBut AskFault.OutOfMemory (λ v. v.items) result (each (next_key of_type.now) [] (items_in text.now)) }
+    ensures { GivesBut AskFault.OutOfMemory (λ v. v.items) result
+        (each (next_key of_type.now) [] (items_in text.now)) }
 {
     let mut keys = Vec::new(alloc);
     let mut rest = text;
@@ -125,7 +129,8 @@ fn keys_in(
     of_type: Option<&FeatureType>,
     text: &str,
 ) -> Result<List<SortKey>, AskFault>
-    ensures { GivesBut AskFault.OutOfMemory (λ keys. keys) result (keys_in (option_copied of_type.entry) text.now) }
+    ensures { GivesBut AskFault.OutOfMemory (λ keys. keys) result
+        (keys_in (option_copied of_type.entry) text.now) }
 {
     let Some(of_type) = of_type else {
         return Err(refused(alloc, 11, "sortBy"));
@@ -142,7 +147,8 @@ pub(crate) fn keys_of(
     kind: Option<u32>,
     listed: &Listed,
 ) -> Result<List<SortKey>, AskFault>
-    ensures { GivesBut AskFault.OutOfMemory (λ keys. keys) result (keys_of schema.now kind (said_by listed.now.pairs)) }
+    ensures { GivesBut AskFault.OutOfMemory (λ keys. keys) result
+        (keys_of schema.now kind (said_by listed.now.pairs)) }
 {
     let Some(text) = listed.value_of("sortBy") else {
         return Ok(List::of(Vec::new(alloc)));

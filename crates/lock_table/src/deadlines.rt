@@ -57,8 +57,10 @@ impl Deadlines {
     // Adds an entry, for which there is room.
     pub fn push(&mut self, deadline: u128, number: u64)
         requires { heap_len self.old.queue < heap_capacity self.old.queue }
-        ensures entry { (p : Due → Bool) → list_any p (heap_items self.new.queue) ≡ (p (due_at deadline number) || list_any p (heap_items self.old.queue)) }
-        ensures count { (p : Due → Bool) → count_by p (heap_items self.new.queue) ≡ cond (p (due_at deadline number)) 1 0 + count_by p (heap_items self.old.queue) }
+        ensures entry { (p : Due → Bool) → list_any p (heap_items self.new.queue)
+            ≡ (p (due_at deadline number) || list_any p (heap_items self.old.queue)) }
+        ensures count { (p : Due → Bool) → count_by p (heap_items self.new.queue)
+            ≡ cond (p (due_at deadline number)) 1 0 + count_by p (heap_items self.old.queue) }
         ensures len { heap_len self.new.queue ≡ heap_len self.old.queue + 1 }
         ensures kept { heap_capacity self.old.queue ≤ heap_capacity self.new.queue }
     {
@@ -70,10 +72,14 @@ impl Deadlines {
 
     // Takes the soonest entry, where its moment has come, and tells its number.
     pub fn pop_due(&mut self, moment: u64) -> Option<u64>
-        ensures entry { IfSome result (λ n. (d : _) × ((p : Due → Bool) → list_any p (heap_items self.old.queue) ≡ (p (due_at d n) || list_any p (heap_items self.new.queue)))) }
-        ensures count { OnSome result (due_count moment (heap_items self.new.queue) + 1 ≡ due_count moment (heap_items self.old.queue)) }
+        ensures entry { IfSome result (λ n. (d : _)
+            × ((p : Due → Bool) → list_any p (heap_items self.old.queue)
+            ≡ (p (due_at d n) || list_any p (heap_items self.new.queue)))) }
+        ensures count { OnSome result (due_count moment (heap_items self.new.queue) + 1
+            ≡ due_count moment (heap_items self.old.queue)) }
         ensures room { OnSome result (heap_len self.new.queue < heap_capacity self.new.queue) }
-        ensures none { IfNone result (list_any (has_come moment) (heap_items self.old.queue) ≡ false) }
+        ensures none { IfNone result (list_any (has_come moment) (heap_items self.old.queue)
+            ≡ false) }
         ensures same { IfNone result (heap_items self.new.queue ≡ heap_items self.old.queue) }
         ensures capacity { heap_capacity self.new.queue ≡ heap_capacity self.old.queue }
     {

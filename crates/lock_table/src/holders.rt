@@ -64,7 +64,8 @@ impl Holders {
 
     fn put(&mut self, feature: &Rid, number: u64)
         requires { 1 ≤ spare self.old.numbers }
-        ensures held { (f : _) → number_at self.new.numbers f ≡ given_to number (feature.now ∷ []) (number_at self.old.numbers) f }
+        ensures held { (f : _) → number_at self.new.numbers f
+            ≡ given_to number (feature.now ∷ []) (number_at self.old.numbers) f }
         ensures room { spare self.old.numbers ≤ spare self.new.numbers + 1 }
     {
         match self.numbers.insert((feature.kind, feature.number), number) {
@@ -76,7 +77,8 @@ impl Holders {
     // Gives features to a lock.
     pub fn give(&mut self, features: &[Rid], number: u64)
         requires { length features.now ≤ spare self.old.numbers }
-        ensures { (f : _) → number_at self.new.numbers f ≡ given_to number features.now (number_at self.old.numbers) f }
+        ensures { (f : _) → number_at self.new.numbers f
+            ≡ given_to number features.now (number_at self.old.numbers) f }
     {
         for feature in features {
             self.put(feature, number);
@@ -84,7 +86,8 @@ impl Holders {
     }
 
     fn take(&mut self, feature: &Rid, number: u64)
-        ensures freed { (f : _) → number_at self.new.numbers f ≡ freed_of number (feature.now ∷ []) (number_at self.old.numbers) f }
+        ensures freed { (f : _) → number_at self.new.numbers f
+            ≡ freed_of number (feature.now ∷ []) (number_at self.old.numbers) f }
         ensures len { hash_map_len self.new.numbers ≤ hash_map_len self.old.numbers }
         ensures room { spare self.old.numbers ≤ spare self.new.numbers }
     {
@@ -95,7 +98,8 @@ impl Holders {
 
     // Frees those of these features that a lock holds.
     pub fn free(&mut self, features: &[Rid], number: u64)
-        ensures freed { (f : _) → number_at self.new.numbers f ≡ freed_of number features.now (number_at self.old.numbers) f }
+        ensures freed { (f : _) → number_at self.new.numbers f
+            ≡ freed_of number features.now (number_at self.old.numbers) f }
         ensures len { hash_map_len self.new.numbers ≤ hash_map_len self.old.numbers }
         ensures room { spare self.old.numbers ≤ spare self.new.numbers }
     {

@@ -26,12 +26,18 @@ impl Model for KeptLock {
 
     ghost Value = { Lock };
 
-    ghost view = { λ l. record { number = l.number; features = l.features.items; period = l.period; deadline = l.deadline } };
+    ghost view = { λ l. record {
+      number = l.number;
+      features = l.features.items;
+      period = l.period;
+      deadline = l.deadline;
+    } };
 }
 
 // Keeps the features that a lock holds.
 fn keep_held(features: &mut Vec<Rid>, number: u64, holders: &Holders)
-    ensures { features.new.items ≡ filter (λ f. is_number number (number_at holders.now.numbers f)) features.old.items }
+    ensures { features.new.items ≡ filter (λ f. is_number number (number_at holders.now.numbers f))
+        features.old.items }
 {
     features.retain(|feature| holders.is_held_by(feature, number));
 }
@@ -44,7 +50,12 @@ fn end_of(moment: u64, period: u32) -> u128
 
 impl KeptLock {
     pub fn new(number: u64, features: Vec<Rid>, period: u32, moment: u64) -> KeptLock
-        ensures { result ≡ record { number = number; features = features.items; period = period; deadline = moment + period } }
+        ensures { result ≡ record {
+          number = number;
+          features = features.items;
+          period = period;
+          deadline = moment + period;
+        } }
     {
         KeptLock {
             number,

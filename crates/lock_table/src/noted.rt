@@ -13,8 +13,10 @@ use crate::numbered;
 // Queues a lock that has still to be ended.
 fn note_lock(deadlines: &mut Deadlines, lock: &KeptLock)
     requires { heap_len deadlines.old.queue < heap_capacity deadlines.old.queue }
-    ensures queued { awaits_end lock.now ≡ true → is_queued (heap_items deadlines.new.queue) lock.now ≡ true }
-    ensures more { (l : Lock) → is_queued (heap_items deadlines.old.queue) l ≡ true → is_queued (heap_items deadlines.new.queue) l ≡ true }
+    ensures queued { awaits_end lock.now ≡ true
+        → is_queued (heap_items deadlines.new.queue) lock.now ≡ true }
+    ensures more { (l : Lock) → is_queued (heap_items deadlines.old.queue) l ≡ true
+        → is_queued (heap_items deadlines.new.queue) l ≡ true }
     ensures len { heap_len deadlines.new.queue ≤ heap_len deadlines.old.queue + 1 }
     ensures capacity { heap_capacity deadlines.old.queue ≤ heap_capacity deadlines.new.queue }
 {
@@ -39,8 +41,11 @@ fn note_all(deadlines: &mut Deadlines, locks: &[KeptLock])
 pub fn note_one(deadlines: &mut Deadlines, locks: &[KeptLock], number: u64)
     requires rising { IsRising 0 locks.now }
     requires room { heap_len deadlines.old.queue < heap_capacity deadlines.old.queue }
-    ensures queued { AreQueuedBut number (heap_items deadlines.old.queue) locks.now → AreQueued (heap_items deadlines.new.queue) locks.now }
-    ensures later { (moment : ℕ) → is_live_number locks.now moment number ≡ true → due_count moment (heap_items deadlines.new.queue) ≡ due_count moment (heap_items deadlines.old.queue) }
+    ensures queued { AreQueuedBut number (heap_items deadlines.old.queue) locks.now
+        → AreQueued (heap_items deadlines.new.queue) locks.now }
+    ensures later { (moment : ℕ) → is_live_number locks.now moment number ≡ true
+        → due_count moment (heap_items deadlines.new.queue)
+        ≡ due_count moment (heap_items deadlines.old.queue) }
     ensures capacity { heap_capacity deadlines.old.queue ≤ heap_capacity deadlines.new.queue }
 {
     match numbered::place(locks, number) {
@@ -54,7 +59,8 @@ pub fn note_one(deadlines: &mut Deadlines, locks: &[KeptLock], number: u64)
 pub fn note(deadlines: &mut Deadlines, locks: &[KeptLock], number: u64)
     requires rising { IsRising 0 locks.now }
     requires room { length locks.now ≤ heap_capacity deadlines.old.queue }
-    ensures queued { AreQueuedBut number (heap_items deadlines.old.queue) locks.now → AreQueued (heap_items deadlines.new.queue) locks.now }
+    ensures queued { AreQueuedBut number (heap_items deadlines.old.queue) locks.now
+        → AreQueued (heap_items deadlines.new.queue) locks.now }
     ensures capacity { heap_capacity deadlines.old.queue ≤ heap_capacity deadlines.new.queue }
 {
     if deadlines.has_room() {

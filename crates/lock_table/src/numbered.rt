@@ -14,7 +14,8 @@ use feature_values::Rid;
 // Where the lock with a number stands among locks whose numbers rise.
 pub fn place(locks: &[KeptLock], number: u64) -> Option<usize>
     requires { IsRising 0 locks.now }
-    ensures { MatchOption result (AllByRecursion (λ lock. has_number number lock ≡ false) locks.now) (λ i. (i < length locks.now) × HoldsAt (λ lock. lock.number ≡ number) locks.now i) }
+    ensures { MatchOption result (AllByRecursion (λ lock. has_number number lock ≡ false) locks.now)
+        (λ i. (i < length locks.now) × HoldsAt (λ lock. lock.number ≡ number) locks.now i) }
 {
     locks
         .binary_search_by_key(&number, |lock| lock.number())
@@ -102,7 +103,8 @@ fn renew_among(locks: &mut [KeptLock], number: u64, moment: u64, period: Option<
 
 pub fn renew(locks: &mut Vec<KeptLock>, number: u64, moment: u64, period: Option<u32>)
     requires { IsRising 0 locks.old.items }
-    ensures items { locks.new.items ≡ changed_at number (renewed_lock moment period) locks.old.items }
+    ensures items { locks.new.items ≡ changed_at number (renewed_lock moment period)
+        locks.old.items }
     ensures len { vec_len locks.new ≡ vec_len locks.old }
     ensures capacity { vec_capacity locks.new ≡ vec_capacity locks.old }
 {
@@ -111,7 +113,8 @@ pub fn renew(locks: &mut Vec<KeptLock>, number: u64, moment: u64, period: Option
 
 fn leave_among(locks: &mut [KeptLock], number: u64, moment: u64, holders: &Holders)
     requires { IsRising 0 locks.old }
-    ensures { locks.new ≡ changed_at number (left_by moment (number_at holders.now.numbers)) locks.old }
+    ensures { locks.new ≡ changed_at number (left_by moment (number_at holders.now.numbers))
+        locks.old }
 {
     match place(locks, number) {
         Some(i) => locks[i].leave(moment, holders),
@@ -122,7 +125,8 @@ fn leave_among(locks: &mut [KeptLock], number: u64, moment: u64, holders: &Holde
 // A lock keeps what it holds by the map.
 pub fn leave(locks: &mut Vec<KeptLock>, number: u64, moment: u64, holders: &Holders)
     requires { IsRising 0 locks.old.items }
-    ensures items { locks.new.items ≡ changed_at number (left_by moment (number_at holders.now.numbers)) locks.old.items }
+    ensures items { locks.new.items ≡ changed_at number
+        (left_by moment (number_at holders.now.numbers)) locks.old.items }
     ensures len { vec_len locks.new ≡ vec_len locks.old }
     ensures capacity { vec_capacity locks.new ≡ vec_capacity locks.old }
 {

@@ -12,7 +12,9 @@ use crate::kept::KeptLock;
 
 // Frees what a lock lists, where it has ended.
 fn free_if_ended(holders: &mut Holders, lock: &KeptLock, last: u64)
-    ensures freed { (f : _) → number_at holders.new.numbers f ≡ freed_of lock.now.number (ended_features last lock.now) (number_at holders.old.numbers) f }
+    ensures freed { (f : _) → number_at holders.new.numbers f
+        ≡ freed_of lock.now.number (ended_features last lock.now) (number_at holders.old.numbers)
+        f }
     ensures mapped { hash_map_len holders.new.numbers ≤ hash_map_len holders.old.numbers }
     ensures room { spare holders.old.numbers ≤ spare holders.new.numbers }
 {
@@ -22,7 +24,8 @@ fn free_if_ended(holders: &mut Holders, lock: &KeptLock, last: u64)
 }
 
 fn free_ended(holders: &mut Holders, locks: &[KeptLock], last: u64)
-    ensures kept { (given : ℕ) → AreKept last given (number_at holders.old.numbers) locks.now → AreKept last given (number_at holders.new.numbers) locks.now }
+    ensures kept { (given : ℕ) → AreKept last given (number_at holders.old.numbers) locks.now
+        → AreKept last given (number_at holders.new.numbers) locks.now }
     ensures freed { AllByRecursion (IsFreed last (number_at holders.new.numbers)) locks.now }
     ensures mapped { hash_map_len holders.new.numbers ≤ hash_map_len holders.old.numbers }
     ensures room { spare holders.old.numbers ≤ spare holders.new.numbers }
@@ -35,7 +38,8 @@ fn free_ended(holders: &mut Holders, locks: &[KeptLock], last: u64)
 // Gives back the memory of the locks that have ended.
 pub fn sweep(holders: &mut Holders, locks: &mut Vec<KeptLock>, last: u64)
     ensures locks { locks.new.items ≡ live last locks.old.items }
-    ensures kept { (given : ℕ) → AreKept last given (number_at holders.old.numbers) locks.old.items → AreKept last given (number_at holders.new.numbers) locks.new.items }
+    ensures kept { (given : ℕ) → AreKept last given (number_at holders.old.numbers) locks.old.items
+        → AreKept last given (number_at holders.new.numbers) locks.new.items }
     ensures listed { feature_count locks.new.items ≤ feature_count locks.old.items }
     ensures mapped { hash_map_len holders.new.numbers ≤ hash_map_len holders.old.numbers }
     ensures room { spare holders.old.numbers ≤ spare holders.new.numbers }

@@ -51,9 +51,21 @@ impl Model for LockTable {
 
     ghost Value = { Locks };
 
-    ghost view = { λ t. record { locks = live t.last t.locks.items; opening = t.opening; given = t.given; last = t.last; spare = t.spare; kept = vec_len t.locks; listed = feature_count t.locks.items; mapped = hash_map_len t.holders.numbers } };
+    ghost view = { λ t. record {
+      locks = live t.last t.locks.items;
+      opening = t.opening;
+      given = t.given;
+      last = t.last;
+      spare = t.spare;
+      kept = vec_len t.locks;
+      listed = feature_count t.locks.items;
+      mapped = hash_map_len t.holders.numbers;
+    } };
 
-    ghost invariant = { λ t. AreKept t.last t.given (number_at t.holders.numbers) t.locks.items × HasRoom t.spare (room t.holders.numbers) (vec_len t.locks) (vec_capacity t.locks) (heap_capacity t.deadlines.queue) × AreQueued (heap_items t.deadlines.queue) t.locks.items × (t.standing ≡ length (live 0 t.locks.items)) };
+    ghost invariant = { λ t. AreKept t.last t.given (number_at t.holders.numbers) t.locks.items
+        × HasRoom t.spare (room t.holders.numbers) (vec_len t.locks) (vec_capacity t.locks)
+        (heap_capacity t.deadlines.queue) × AreQueued (heap_items t.deadlines.queue) t.locks.items
+        × (t.standing ≡ length (live 0 t.locks.items)) };
 }
 
 impl LockTable {
@@ -156,10 +168,17 @@ impl LockTable {
     /// `Full`, with the number of live locks, where that is `limit` or more, and `OutOfMemory`.
     pub fn reserve(&mut self, features: u64, moment: u64, limit: u64) -> Result<(), LockFault>
         requires { self.old.last ≤ moment }
-        ensures full { limit ≤ length (live moment self.old.locks) → result ≡ Err (Full (length (live moment self.old.locks))) }
-        ensures free { length (live moment self.old.locks) < limit → IfErr result (λ fault. fault ≡ OutOfMemory) }
+        ensures full { limit ≤ length (live moment self.old.locks)
+            → result ≡ Err (Full (length (live moment self.old.locks))) }
+        ensures free { length (live moment self.old.locks) < limit
+            → IfErr result (λ fault. fault ≡ OutOfMemory) }
         ensures room { OnOk result (features ≤ self.new.spare) }
-        ensures same { self.new ≡ record self.old { spare = self.new.spare; kept = self.new.kept; listed = self.new.listed; mapped = self.new.mapped } }
+        ensures same { self.new ≡ record self.old {
+          spare = self.new.spare;
+          kept = self.new.kept;
+          listed = self.new.listed;
+          mapped = self.new.mapped;
+        } }
         ensures kept { self.old.spare ≤ self.new.spare }
         ensures few { self.new.kept ≤ 2 * length self.new.locks }
         ensures listed { self.new.listed ≤ self.old.listed }
@@ -179,7 +198,11 @@ impl LockTable {
 
     // Takes out the locks that have ended, where they are many.
     fn clear_out(&mut self)
-        ensures same { self.new ≡ record self.old { kept = self.new.kept; listed = self.new.listed; mapped = self.new.mapped } }
+        ensures same { self.new ≡ record self.old {
+          kept = self.new.kept;
+          listed = self.new.listed;
+          mapped = self.new.mapped;
+        } }
         ensures few { self.new.kept ≤ 2 * length self.new.locks }
         ensures listed { self.new.listed ≤ self.old.listed }
         ensures mapped { self.new.mapped ≤ self.old.mapped }
@@ -191,7 +214,11 @@ impl LockTable {
 
     // Takes out the locks that have ended.
     fn sweep(&mut self)
-        ensures same { self.new ≡ record self.old { kept = length self.old.locks; listed = self.new.listed; mapped = self.new.mapped } }
+        ensures same { self.new ≡ record self.old {
+          kept = length self.old.locks;
+          listed = self.new.listed;
+          mapped = self.new.mapped;
+        } }
         ensures listed { self.new.listed ≤ self.old.listed }
         ensures mapped { self.new.mapped ≤ self.old.mapped }
     {
@@ -256,7 +283,8 @@ impl LockTable {
         requires room { length features ≤ self.old.spare }
         requires numbers { self.old.given < 18_446_744_073_709_551_615 }
         ensures number { result ≡ self.old.given + 1 }
-        ensures locks { self.new.locks ≡ granted moment self.old.given features period self.old.locks }
+        ensures locks { self.new.locks ≡ granted moment self.old.given features period
+            self.old.locks }
         ensures opening { self.new.opening ≡ self.old.opening }
         ensures given { self.new.given ≡ self.old.given + 1 }
         ensures last { self.new.last ≡ moment }
@@ -276,7 +304,16 @@ impl LockTable {
         requires free { All (λ feature. holder self.old.locks moment feature ≡ None) features }
         requires room { length features ≤ self.old.spare }
         requires numbers { self.old.given < 18_446_744_073_709_551_615 }
-        ensures { self.new ≡ record self.old { locks = granted moment self.old.given features period self.old.locks; given = self.old.given + 1; last = moment; spare = 0; kept = self.old.kept + 1; listed = self.new.listed; mapped = self.new.mapped } }
+        ensures { self.new ≡ record self.old {
+          locks = granted moment self.old.given features period
+              self.old.locks;
+          given = self.old.given + 1;
+          last = moment;
+          spare = 0;
+          kept = self.old.kept + 1;
+          listed = self.new.listed;
+          mapped = self.new.mapped;
+        } }
     {
         let number = self.given + 1;
         self.holders.give(features.items(), number);
@@ -310,7 +347,12 @@ impl LockTable {
     fn renew_lock(&mut self, number: u64, moment: u64, period: Option<u32>)
         requires moment { self.old.last ≤ moment }
         requires live { IsTrue (is_live_number self.old.locks moment number) }
-        ensures { self.new ≡ record self.old { locks = renewed moment number period self.old.locks; last = moment; listed = self.new.listed; mapped = self.new.mapped } }
+        ensures { self.new ≡ record self.old {
+          locks = renewed moment number period self.old.locks;
+          last = moment;
+          listed = self.new.listed;
+          mapped = self.new.mapped;
+        } }
     {
         numbered::renew(&mut self.locks, number, moment, period);
         noted::note(&mut self.deadlines, self.locks.as_slice(), number);
@@ -343,7 +385,13 @@ impl LockTable {
     fn release_whole(&mut self, number: u64, touched: &[Rid], moment: u64)
         requires moment { self.old.last ≤ moment }
         requires live { IsTrue (is_live_number self.old.locks moment number) }
-        ensures { self.new ≡ record self.old { locks = released moment number touched.now Whole self.old.locks; last = moment; listed = self.new.listed; mapped = self.new.mapped } }
+        ensures { self.new ≡ record self.old {
+          locks = released moment number touched.now Whole
+              self.old.locks;
+          last = moment;
+          listed = self.new.listed;
+          mapped = self.new.mapped;
+        } }
     {
         let _ = touched;
         let features = numbered::features_of(self.locks.as_slice(), number);
@@ -356,7 +404,13 @@ impl LockTable {
     fn release_touched(&mut self, number: u64, touched: &[Rid], moment: u64)
         requires moment { self.old.last ≤ moment }
         requires live { IsTrue (is_live_number self.old.locks moment number) }
-        ensures { self.new ≡ record self.old { locks = released moment number touched.now Touched self.old.locks; last = moment; listed = self.new.listed; mapped = self.new.mapped } }
+        ensures { self.new ≡ record self.old {
+          locks = released moment number touched.now Touched
+              self.old.locks;
+          last = moment;
+          listed = self.new.listed;
+          mapped = self.new.mapped;
+        } }
     {
         self.holders.free(touched, number);
         numbered::leave(&mut self.locks, number, moment, &self.holders);
@@ -368,7 +422,10 @@ impl LockTable {
     // Ends the locks whose deadline has come, and gives back the memory of what they held. An entry of a lock that has
     // been renewed since gives way to one at its deadline.
     fn expire(&mut self)
-        ensures same { self.new ≡ record self.old { listed = self.new.listed; mapped = self.new.mapped } }
+        ensures same { self.new ≡ record self.old {
+          listed = self.new.listed;
+          mapped = self.new.mapped;
+        } }
         ensures listed { self.new.listed ≡ feature_count self.new.locks }
         ensures mapped { self.new.mapped ≤ feature_count self.new.locks }
     {

@@ -44,9 +44,11 @@ pub fn split_target(target: &str) -> (&str, &str)
 
 // Reads the request of a document.
 fn read_posted(alloc: Global, body: &[u8], schema: &Schema) -> Result<Request, AskFault>
-    ensures read { GivesBut AskFault.OutOfMemory (λ r. r) result (posted (document body.now) schema.now) }
+    ensures read { GivesBut AskFault.OutOfMemory (λ r. r) result
+        (posted (document body.now) schema.now) }
     ensures of_schema { IfOk result (λ r. IsOfSchema schema.now r) }
-    ensures kept { KeepsRules schema.now → IfOk result (λ r. All (IsKeptText schema.now) (stored_in r)) }
+    ensures kept { KeepsRules schema.now → IfOk result
+        (λ r. All (IsKeptText schema.now) (stored_in r)) }
 {
     match read_document(alloc, body) {
         Ok(root) => {
@@ -69,7 +71,8 @@ pub fn read_asked(alloc: Global, message: &Message, schema: &Schema) -> Result<R
     ensures read { GivesBut AskFault.OutOfMemory (λ r. r) result (asked message.now schema.now) }
     ensures of_schema { IfOk result (λ r. IsOfSchema schema.now r) }
     // The texts of stored queries read back, where the schema is one of a schema file.
-    ensures kept { KeepsRules schema.now → IfOk result (λ r. All (IsKeptText schema.now) (stored_in r)) }
+    ensures kept { KeepsRules schema.now → IfOk result
+        (λ r. All (IsKeptText schema.now) (stored_in r)) }
 {
     let (path, query) = split_target(message.target.as_str());
     if !is_service_path(path.as_bytes()) {

@@ -25,7 +25,8 @@ pub fn say_refused<S: Sink>(sink: &mut S, fault: &SchemaFault)
 }
 
 fn put_refused<S: Sink>(sink: &mut S, fault: &SchemaFault) -> bool
-    ensures { Writes (record { shown = S.sink sink.old; failed = false }) (refused_line fault.now) (record { shown = S.sink sink.new; failed = result }) }
+    ensures { Writes (record { shown = S.sink sink.old; failed = false }) (refused_line fault.now)
+        (record { shown = S.sink sink.new; failed = result }) }
 {
     let failed = put_on(sink, false, b"wfsd: schema refused: ");
     let failed = put_fault(sink, failed, fault);
@@ -34,7 +35,8 @@ fn put_refused<S: Sink>(sink: &mut S, fault: &SchemaFault) -> bool
 
 // Gives a fault's name, and what it names.
 fn put_fault<S: Sink>(sink: &mut S, failed: bool, fault: &SchemaFault) -> bool
-    ensures { Writes (record { shown = S.sink sink.old; failed = failed }) (fault_text fault.now) (record { shown = S.sink sink.new; failed = result }) }
+    ensures { Writes (record { shown = S.sink sink.old; failed = failed }) (fault_text fault.now)
+        (record { shown = S.sink sink.new; failed = result }) }
 {
     match fault {
         SchemaFault::NotToml => put_on(sink, failed, b"NotToml"),
@@ -47,7 +49,8 @@ fn put_fault<S: Sink>(sink: &mut S, failed: bool, fault: &SchemaFault) -> bool
 }
 
 fn put_named<S: Sink>(sink: &mut S, failed: bool, kind: &[u8], name: &str) -> bool
-    ensures { Writes (record { shown = S.sink sink.old; failed = failed }) (kind.now ++ name.now) (record { shown = S.sink sink.new; failed = result }) }
+    ensures { Writes (record { shown = S.sink sink.old; failed = failed }) (kind.now ++ name.now)
+        (record { shown = S.sink sink.new; failed = result }) }
 {
     let failed = put_on(sink, failed, kind);
     put_on(sink, failed, name.as_bytes())
@@ -62,7 +65,8 @@ pub fn say_place<S: Sink>(sink: &mut S, second: bool, at: u64)
 }
 
 fn put_place<S: Sink>(sink: &mut S, second: bool, at: u64) -> bool
-    ensures { Writes (record { shown = S.sink sink.old; failed = false }) (not_a_journal second at) (record { shown = S.sink sink.new; failed = result }) }
+    ensures { Writes (record { shown = S.sink sink.old; failed = false }) (not_a_journal second at)
+        (record { shown = S.sink sink.new; failed = result }) }
 {
     let failed = put_on(sink, false, b"wfsd: not a journal: ");
     let failed = put_on(sink, failed, side_name(second));
@@ -86,7 +90,8 @@ pub fn say_record<S: Sink>(sink: &mut S, number: u64)
 }
 
 fn put_record<S: Sink>(sink: &mut S, number: u64) -> bool
-    ensures { Writes (record { shown = S.sink sink.old; failed = false }) (not_of_schema number) (record { shown = S.sink sink.new; failed = result }) }
+    ensures { Writes (record { shown = S.sink sink.old; failed = false }) (not_of_schema number)
+        (record { shown = S.sink sink.new; failed = result }) }
 {
     let failed = put_on(sink, false, b"wfsd: not of this schema: ");
     let failed = put_number(sink, failed, number);

@@ -9,7 +9,8 @@ use wfs_ends::{Sink, put_on};
 
 /// Says that links are served from now on.
 pub fn put_serving<S: Sink>(sink: &mut S) -> bool
-    ensures { Writes (record { shown = S.sink sink.old; failed = false }) serving (record { shown = S.sink sink.new; failed = result }) }
+    ensures { Writes (record { shown = S.sink sink.old; failed = false }) serving
+        (record { shown = S.sink sink.new; failed = result }) }
 {
     put_on(sink, false, b"serving\n")
 }

@@ -125,7 +125,8 @@ pub(crate) fn each_in_order(mut ids: Vec<Rid>) -> Mem<Vec<Rid>>
 /// Those that are known, in default order, each once.
 pub(crate) fn known_in_order(alloc: Global, references: &[IdRef]) -> Mem<Vec<Rid>>
     ensures order { IfOk result (λ v. IsStrictlySortedBy rid_order v.items) }
-    ensures same { IfOk result (λ v. (id : Rid) → is_among v.items id ≡ list_any (is_of id) references.now) }
+    ensures same { IfOk result (λ v. (id : Rid)
+        → is_among v.items id ≡ list_any (is_of id) references.now) }
     ensures few { IfOk result (λ v. length v.items ≤ length (known_ids references.now)) }
 {
     let ids = known_ids(alloc, references)?;

@@ -48,7 +48,8 @@ pub(crate) fn those_among(alloc: Global, ids: &[Rid], sorted: &[Rid]) -> Mem<Vec
 /// Some identifiers, and behind them those of `more` that are not among others, which are in default order.
 fn append_new(mut all: Vec<Rid>, sorted: &[Rid], more: &[Rid]) -> Mem<Vec<Rid>>
     requires { IsSorted rid_order sorted.now }
-    ensures { IfOk result (λ v. v.items ≡ all.items ++ filter (λ id. not (is_among sorted.now id)) more.now) }
+    ensures { IfOk result (λ v. v.items ≡ all.items
+        ++ filter (λ id. not (is_among sorted.now id)) more.now) }
 {
     for id in more {
         if has(sorted, *id) {

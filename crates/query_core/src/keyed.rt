@@ -39,7 +39,8 @@ fn with_value<'a>(keys: &[SortKey], feature: &'a Feature) -> Keyed<'a>
 }
 
 fn all_keyed<'a>(alloc: Global, keys: &[SortKey], features: &[&'a Feature]) -> Mem<Vec<Keyed<'a>>>
-    ensures { IfOk result (λ all. map pair_of all.items ≡ map (λ f. pair_by keys.now f.now) features.now) }
+    ensures { IfOk result (λ all. map pair_of all.items
+        ≡ map (λ f. pair_by keys.now f.now) features.now) }
 {
     let mut all = Vec::with_capacity(alloc, features.len())?;
     for feature in features {
@@ -67,7 +68,8 @@ fn keyed_order(keys: &[SortKey], a: &Keyed, b: &Keyed) -> Ordering
 
 /// The same features, sorted by the keys.
 fn sort_keyed<'a>(alloc: Global, keys: &[SortKey], features: &[&'a Feature]) -> Mem<Vec<Keyed<'a>>>
-    ensures { IfOk result (λ all. map (λ k. k.feature.now) all.items ≡ sorted keys.now (map (λ f. f.now) features.now)) }
+    ensures { IfOk result (λ all. map (λ k. k.feature.now) all.items
+        ≡ sorted keys.now (map (λ f. f.now) features.now)) }
 {
     let mut all = all_keyed(alloc, keys, features)?;
     all.sort_by(|a, b| keyed_order(keys, a, b))?;

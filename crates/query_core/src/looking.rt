@@ -28,7 +28,8 @@ fn selected_of<'a, L: Ledger>(
     features: &[&'a Feature],
     steps: &mut Steps<L>,
 ) -> Mem<Vec<&'a Feature>>
-    ensures value { IfOk result (λ fs. map (λ f. f.now) fs.items ≡ filter (is_selected query.now) (map (λ f. f.now) features.now)) }
+    ensures value { IfOk result (λ fs. map (λ f. f.now) fs.items
+        ≡ filter (is_selected query.now) (map (λ f. f.now) features.now)) }
     ensures steps { steps.new ≤ steps.old + length features.now }
 {
     let mut found = Vec::new(alloc);
@@ -52,7 +53,8 @@ fn look_up<'a, V: FeatureView, L: Ledger>(
 ) -> Mem<Vec<&'a Feature>>
     requires order { IsStrictlySortedBy rid_order ids.now }
     requires whole { HasSelected query.now (V.features view.now) ids.now }
-    ensures value { IfOk result (λ fs. map (λ f. f.now) fs.items ≡ filter (is_selected query.now) (V.features view.now)) }
+    ensures value { IfOk result (λ fs. map (λ f. f.now) fs.items
+        ≡ filter (is_selected query.now) (V.features view.now)) }
     ensures order { OnOk result (IsInOrder (V.features view.now)) }
     ensures steps { steps.new ≤ steps.old + length ids.now }
 {
@@ -70,7 +72,8 @@ pub(crate) fn look_up_ids<'a, V: FeatureView, L: Ledger>(
     steps: &mut Steps<L>,
 ) -> Mem<Vec<&'a Feature>>
     requires { ids_asked query.now.filter ≡ Some references.now }
-    ensures value { IfOk result (λ fs. map (λ f. f.now) fs.items ≡ filter (is_selected query.now) (V.features view.now)) }
+    ensures value { IfOk result (λ fs. map (λ f. f.now) fs.items
+        ≡ filter (is_selected query.now) (V.features view.now)) }
     ensures order { OnOk result (IsInOrder (V.features view.now)) }
     ensures steps { steps.new ≤ steps.old + length (known_ids references.now) }
 {
@@ -87,9 +90,11 @@ pub(crate) fn look_up_near<'a, V: FeatureView, L: Ledger>(
     steps: &mut Steps<L>,
 ) -> Mem<Vec<&'a Feature>>
     requires { box_asked query.now.filter ≡ Some area.now }
-    ensures value { IfOk result (λ fs. map (λ f. f.now) fs.items ≡ filter (is_selected query.now) (V.features view.now)) }
+    ensures value { IfOk result (λ fs. map (λ f. f.now) fs.items
+        ≡ filter (is_selected query.now) (V.features view.now)) }
     ensures order { OnOk result (IsInOrder (V.features view.now)) }
-    ensures steps { steps.new ≤ steps.old + over_types (λ k. V.most_near view.now k area.now) (V.schema view.now) query.now.kind }
+    ensures steps { steps.new ≤ steps.old + over_types (λ k. V.most_near view.now k area.now)
+        (V.schema view.now) query.now.kind }
 {
     let ids = near_in_order(alloc, view, query.kind, area)?;
     look_up(alloc, view, query, &ids, steps)
@@ -100,8 +105,10 @@ fn common(alloc: Global, ids: &[Rid], others: &[Rid]) -> Mem<Vec<Rid>>
     requires ids { IsStrictlySortedBy rid_order ids.now }
     requires others { IsStrictlySortedBy rid_order others.now }
     ensures order { IfOk result (λ both. IsStrictlySortedBy rid_order both.items) }
-    ensures same { IfOk result (λ both. (id : Rid) → is_among both.items id ≡ (is_among ids.now id && is_among others.now id)) }
-    ensures few { IfOk result (λ both. length both.items ≤ min (length ids.now) (length others.now)) }
+    ensures same { IfOk result (λ both. (id : Rid)
+        → is_among both.items id ≡ (is_among ids.now id && is_among others.now id)) }
+    ensures few { IfOk result (λ both. length both.items ≤ min (length ids.now)
+        (length others.now)) }
 {
     if ids.len() < others.len() {
         those_among(alloc, ids, others)
@@ -121,9 +128,11 @@ pub(crate) fn look_up_both<'a, V: FeatureView, L: Ledger>(
 ) -> Mem<Vec<&'a Feature>>
     requires ids { ids_asked query.now.filter ≡ Some references.now }
     requires area { box_asked query.now.filter ≡ Some area.now }
-    ensures value { IfOk result (λ fs. map (λ f. f.now) fs.items ≡ filter (is_selected query.now) (V.features view.now)) }
+    ensures value { IfOk result (λ fs. map (λ f. f.now) fs.items
+        ≡ filter (is_selected query.now) (V.features view.now)) }
     ensures order { OnOk result (IsInOrder (V.features view.now)) }
-    ensures steps { steps.new ≤ steps.old + min (length (known_ids references.now)) (over_types (λ k. V.most_near view.now k area.now) (V.schema view.now) query.now.kind) }
+    ensures steps { steps.new ≤ steps.old + min (length (known_ids references.now))
+        (over_types (λ k. V.most_near view.now k area.now) (V.schema view.now) query.now.kind) }
 {
     let ids = known_in_order(alloc, references)?;
     let near = near_in_order(alloc, view, query.kind, area)?;

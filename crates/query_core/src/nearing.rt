@@ -27,7 +27,8 @@ fn end_of(id: Rid) -> Option<Rid>
 /// Those of all types. Each type that has a feature is asked once.
 fn near_of_all<V: FeatureView>(alloc: Global, view: &V, area: &Box2) -> Mem<Vec<Rid>>
     ensures whole { IfOk result (λ ids. HasNear None area.now (V.features view.now) ids.items) }
-    ensures few { IfOk result (λ ids. length ids.items ≤ over_types (λ k. V.most_near view.now k area.now) (V.schema view.now) None) }
+    ensures few { IfOk result (λ ids. length ids.items ≤ over_types
+        (λ k. V.most_near view.now k area.now) (V.schema view.now) None) }
 {
     let mut ids = Vec::new(alloc);
     let mut after = None;
@@ -42,7 +43,8 @@ fn near_of_all<V: FeatureView>(alloc: Global, view: &V, area: &Box2) -> Mem<Vec<
 /// Those of a type, or of all types where none is named.
 fn near_of<V: FeatureView>(alloc: Global, view: &V, kind: Option<u32>, area: &Box2) -> Mem<Vec<Rid>>
     ensures whole { IfOk result (λ ids. HasNear kind area.now (V.features view.now) ids.items) }
-    ensures few { IfOk result (λ ids. length ids.items ≤ over_types (λ k. V.most_near view.now k area.now) (V.schema view.now) kind) }
+    ensures few { IfOk result (λ ids. length ids.items ≤ over_types
+        (λ k. V.most_near view.now k area.now) (V.schema view.now) kind) }
 {
     match kind {
         None => near_of_all(alloc, view, area),
@@ -59,7 +61,8 @@ pub(crate) fn near_in_order<V: FeatureView>(
 ) -> Mem<Vec<Rid>>
     ensures order { IfOk result (λ ids. IsStrictlySortedBy rid_order ids.items) }
     ensures whole { IfOk result (λ ids. HasNear kind area.now (V.features view.now) ids.items) }
-    ensures few { IfOk result (λ ids. length ids.items ≤ over_types (λ k. V.most_near view.now k area.now) (V.schema view.now) kind) }
+    ensures few { IfOk result (λ ids. length ids.items ≤ over_types
+        (λ k. V.most_near view.now k area.now) (V.schema view.now) kind) }
 {
     let ids = near_of(alloc, view, kind, area)?;
     each_in_order(ids)

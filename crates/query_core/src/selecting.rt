@@ -24,9 +24,11 @@ fn found<'a, V: FeatureView, L: Ledger>(
     query: &Query,
     steps: &mut Steps<L>,
 ) -> Mem<Vec<&'a Feature>>
-    ensures value { IfOk result (λ fs. map (λ f. f.now) fs.items ≡ filter (is_selected query.now) (V.features view.now)) }
+    ensures value { IfOk result (λ fs. map (λ f. f.now) fs.items
+        ≡ filter (is_selected query.now) (V.features view.now)) }
     ensures order { OnOk result (IsInOrder (V.features view.now)) }
-    ensures steps { steps.new ≤ steps.old + most_steps (V.most_near view.now) (V.schema view.now) (V.features view.now) query.now }
+    ensures steps { steps.new ≤ steps.old + most_steps (V.most_near view.now) (V.schema view.now)
+        (V.features view.now) query.now }
 {
     match (box_asked(query), ids_asked(query)) {
         (None, None) => walk(alloc, view, query, steps),
@@ -48,7 +50,8 @@ pub fn select<V: FeatureView, L: Ledger>(
     steps: &mut Steps<L>,
 ) -> Mem<List<Rid>>
     ensures value { IfOk result (λ ids. ids ≡ selected_ids (V.features view.now) query.now) }
-    ensures steps { steps.new ≤ steps.old + most_steps (V.most_near view.now) (V.schema view.now) (V.features view.now) query.now }
+    ensures steps { steps.new ≤ steps.old + most_steps (V.most_near view.now) (V.schema view.now)
+        (V.features view.now) query.now }
 {
     let found = found(alloc, view, query, steps)?;
     let keys = query.sort.items();

@@ -48,7 +48,8 @@ pub fn sort_rows<V: FeatureView>(
     rows: List<Rid>,
     sort: &List<SortKey>,
 ) -> Mem<List<Rid>>
-    ensures { IfOk result (λ ids. ids ≡ ids_of (sorted sort.now (held (V.features view.now) rows))) }
+    ensures { IfOk result (λ ids. ids ≡ ids_of
+        (sorted sort.now (held (V.features view.now) rows))) }
 {
     let features = held(alloc, view, rows.items())?;
     sorted_ids(alloc, sort.items(), &features)

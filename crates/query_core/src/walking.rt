@@ -20,7 +20,8 @@ pub(crate) fn is_selected<L: Ledger>(
     steps: &mut Steps<L>,
 ) -> Mem<bool>
     ensures value { IfOk result (λ b. b ≡ is_selected query.now feature.now) }
-    ensures steps { steps.new ≤ steps.old + (if is_of_type query.now.kind feature.now then 1 else 0) }
+    ensures steps { steps.new ≤ steps.old + (if is_of_type query.now.kind feature.now then 1
+        else 0) }
 {
     if let Some(kind) = query.kind {
         if feature.id.kind != kind {
@@ -71,9 +72,11 @@ pub(crate) fn walk<'a, V: FeatureView, L: Ledger>(
     query: &Query,
     steps: &mut Steps<L>,
 ) -> Mem<Vec<&'a Feature>>
-    ensures value { IfOk result (λ fs. map (λ f. f.now) fs.items ≡ filter (is_selected query.now) (V.features view.now)) }
+    ensures value { IfOk result (λ fs. map (λ f. f.now) fs.items
+        ≡ filter (is_selected query.now) (V.features view.now)) }
     ensures order { OnOk result (IsInOrder (V.features view.now)) }
-    ensures steps { steps.new ≤ steps.old + length (filter (is_of_type query.now.kind) (V.features view.now)) }
+    ensures steps { steps.new ≤ steps.old + length
+        (filter (is_of_type query.now.kind) (V.features view.now)) }
 {
     let mut found = Vec::new(alloc);
     let mut after = start_of(query.kind);

@@ -42,7 +42,8 @@ fn add_given(
     element: &Element,
 ) -> Result<(), AskFault>
     requires seen { HasGiven seen.old given.old.items }
-    ensures gives { GivesBut AskFault.OutOfMemory (λ _. given.new.items) result (next_given given.old.items element.now) }
+    ensures gives { GivesBut AskFault.OutOfMemory (λ _. given.new.items) result
+        (next_given given.old.items element.now) }
     ensures seen { OnOk result (HasGiven seen.new given.new.items) }
 {
     if !is_wfs(element, "Parameter") {
@@ -60,7 +61,8 @@ fn add_given(
 
 // All that is given.
 fn all_given(alloc: Global, elements: &[Element]) -> Result<Vec<(Text, Text)>, AskFault>
-    ensures { GivesBut AskFault.OutOfMemory (λ v. v.items) result (each next_given [] elements.now) }
+    ensures { GivesBut AskFault.OutOfMemory (λ v. v.items) result
+        (each next_given [] elements.now) }
 {
     let mut seen = none_seen(alloc);
     let mut given = Vec::new(alloc);
@@ -135,7 +137,8 @@ fn asked_of(alloc: Global, element: &Element, schema: &Schema) -> Result<Asked, 
 ///
 /// Texts are shared with the tree. `OutOfMemory`: there is no memory for what is asked, or for the name that a refusal points at.
 pub fn read_asked(alloc: Global, element: &Element, schema: &Schema) -> Result<Asked, AskFault>
-    ensures gives { GivesBut AskFault.OutOfMemory (λ x. x) result (asked_of schema.now element.now) }
+    ensures gives { GivesBut AskFault.OutOfMemory (λ x. x) result
+        (asked_of schema.now element.now) }
     ensures of_schema { IfOk result (λ asked. IsAskedOf schema.now asked) }
 {
     asked_of(alloc, element, schema)

@@ -82,7 +82,8 @@ fn add_query(
     found: &mut Vec<Query>,
     element: &Element,
 ) -> Result<(), AskFault>
-    ensures { GivesBut AskFault.OutOfMemory (λ _. found.new.items) result (next_query names.now schema.now found.old.items element.now) }
+    ensures { GivesBut AskFault.OutOfMemory (λ _. found.new.items) result
+        (next_query names.now schema.now found.old.items element.now) }
 {
     if !is_wfs(element, "Query") {
         return Err(misplaced(alloc, element));
@@ -99,7 +100,8 @@ pub(crate) fn all_queries(
     schema: &Schema,
     elements: &[Element],
 ) -> Result<Vec<Query>, AskFault>
-    ensures { GivesBut AskFault.OutOfMemory (λ v. v.items) result (each (next_query names.now schema.now) [] elements.now) }
+    ensures { GivesBut AskFault.OutOfMemory (λ v. v.items) result
+        (each (next_query names.now schema.now) [] elements.now) }
 {
     let mut found = Vec::new(alloc);
     for element in elements {
@@ -116,7 +118,8 @@ fn queries_of(
     schema: &Schema,
     element: &Element,
 ) -> Result<List<Query>, AskFault>
-    ensures { GivesBut AskFault.OutOfMemory (λ x. x) result (queries_of names.now schema.now element.now) }
+    ensures { GivesBut AskFault.OutOfMemory (λ x. x) result
+        (queries_of names.now schema.now element.now) }
 {
     language_of(alloc, element)?;
     expression_others(alloc, element)?;
@@ -188,7 +191,8 @@ fn with_queries(
     found: Parts,
     element: &Element,
 ) -> Result<Parts, AskFault>
-    ensures gives { GivesBut AskFault.OutOfMemory (λ x. x) result (with_queries names.now schema.now found element.now) }
+    ensures gives { GivesBut AskFault.OutOfMemory (λ x. x) result
+        (with_queries names.now schema.now found element.now) }
     ensures names { IfOk result (λ parts. parts.names ≡ found.names) }
 {
     if found.queries.is_some() {
@@ -213,7 +217,8 @@ fn next_part(
     element: &Element,
 ) -> Result<Parts, AskFault>
     requires seen { HasDeclared seen.old found.names }
-    ensures gives { GivesBut AskFault.OutOfMemory (λ x. x) result (next_part names.now schema.now found element.now) }
+    ensures gives { GivesBut AskFault.OutOfMemory (λ x. x) result
+        (next_part names.now schema.now found element.now) }
     ensures seen { IfOk result (λ parts. HasDeclared seen.new parts.names) }
 {
     if is_wfs(element, "Title") {
@@ -238,7 +243,8 @@ fn all_parts(
     schema: &Schema,
     elements: &[Element],
 ) -> Result<Parts, AskFault>
-    ensures { GivesBut AskFault.OutOfMemory (λ x. x) result (each (next_part names.now schema.now) no_parts elements.now) }
+    ensures { GivesBut AskFault.OutOfMemory (λ x. x) result
+        (each (next_part names.now schema.now) no_parts elements.now) }
 {
     let mut seen = none_seen(alloc);
     let mut found = Parts {
@@ -308,7 +314,13 @@ fn stored_of(
     names: List<Text>,
     queries: List<Query>,
 ) -> Mem<StoredQuery>
-    ensures { IfOk result (λ stored. stored ≡ record { id = id; title = unwrap_or title []; parameters = names; queries = queries; text = stored_text schema.now names queries }) }
+    ensures { IfOk result (λ stored. stored ≡ record {
+      id = id;
+      title = unwrap_or title [];
+      parameters = names;
+      queries = queries;
+      text = stored_text schema.now names queries;
+    }) }
 {
     let title = title_of(alloc, title)?;
     let text = text_of(alloc, &queries, &names, schema)?;
@@ -363,10 +375,12 @@ pub fn read_definition(
     element: &Element,
     schema: &Schema,
 ) -> Result<StoredQuery, AskFault>
-    ensures gives { GivesBut AskFault.OutOfMemory (λ x. x) result (definition_of schema.now element.now) }
+    ensures gives { GivesBut AskFault.OutOfMemory (λ x. x) result
+        (definition_of schema.now element.now) }
     ensures of_schema { IfOk result (λ stored. IsStoredOf schema.now stored) }
     // The text reads back, where the schema is one of a schema file, and the element one of a document.
-    ensures kept { KeepsRules schema.now → IsInDocument element.now → IfOk result (IsKeptText schema.now) }
+    ensures kept { KeepsRules schema.now → IsInDocument element.now
+        → IfOk result (IsKeptText schema.now) }
 {
     definition_of(alloc, element, schema)
 }

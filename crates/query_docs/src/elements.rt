@@ -46,7 +46,8 @@ pub(crate) fn text_alone<'a>(alloc: Global, element: &'a Element) -> Result<&'a 
 
 // Refuses an attribute that the service does not offer.
 pub(crate) fn not_offered(alloc: Global, element: &Element, name: &str) -> Result<(), AskFault>
-    ensures { GivesBut AskFault.OutOfMemory (λ x. x) result (not_offered name.now (said_at element.now name.now)) }
+    ensures { GivesBut AskFault.OutOfMemory (λ x. x) result
+        (not_offered name.now (said_at element.now name.now)) }
 {
     let said = Attributes { of: element };
     match said.value_of(name) {

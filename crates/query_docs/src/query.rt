@@ -96,7 +96,8 @@ fn filter_in(
     kind: Option<u32>,
     element: &Element,
 ) -> Result<Filter, FilterDocFault>
-    ensures { GivesBut FilterDocFault.OutOfMemory (λ x. x) result (filter_of (option_copied parameters.entry) schema.now kind element.now) }
+    ensures { GivesBut FilterDocFault.OutOfMemory (λ x. x) result
+        (filter_of (option_copied parameters.entry) schema.now kind element.now) }
 {
     match parameters {
         None => read_filter(alloc, element, kind, schema),
@@ -112,7 +113,8 @@ fn filter_or_refusal(
     kind: Option<u32>,
     element: &Element,
 ) -> Result<Filter, AskFault>
-    ensures { GivesBut AskFault.OutOfMemory (λ x. x) result (or_refusal (filter_of (option_copied parameters.entry) schema.now kind element.now)) }
+    ensures { GivesBut AskFault.OutOfMemory (λ x. x) result
+        (or_refusal (filter_of (option_copied parameters.entry) schema.now kind element.now)) }
 {
     match filter_in(alloc, parameters, schema, kind, element) {
         Ok(filter) => Ok(filter),
@@ -131,7 +133,8 @@ fn add_filter(
     found: &mut Clauses,
     element: &Element,
 ) -> Result<(), AskFault>
-    ensures { GivesBut AskFault.OutOfMemory (λ _. found.new) result (with_filter (option_copied parameters.entry) schema.now kind found.old element.now) }
+    ensures { GivesBut AskFault.OutOfMemory (λ _. found.new) result
+        (with_filter (option_copied parameters.entry) schema.now kind found.old element.now) }
 {
     if found.filter.is_some() || found.sort.is_some() {
         return Err(misplaced(alloc, element));
@@ -150,7 +153,8 @@ fn add_sort(
     found: &mut Clauses,
     element: &Element,
 ) -> Result<(), AskFault>
-    ensures { GivesBut AskFault.OutOfMemory (λ _. found.new) result (with_sort schema.now kind found.old element.now) }
+    ensures { GivesBut AskFault.OutOfMemory (λ _. found.new) result
+        (with_sort schema.now kind found.old element.now) }
 {
     if found.sort.is_some() {
         return Err(misplaced(alloc, element));
@@ -170,7 +174,8 @@ fn add_clause(
     found: &mut Clauses,
     element: &Element,
 ) -> Result<(), AskFault>
-    ensures { GivesBut AskFault.OutOfMemory (λ _. found.new) result (next_clause (option_copied parameters.entry) schema.now kind found.old element.now) }
+    ensures { GivesBut AskFault.OutOfMemory (λ _. found.new) result
+        (next_clause (option_copied parameters.entry) schema.now kind found.old element.now) }
 {
     if is_wfs(element, "PropertyName") {
         return Err(refused(alloc, 12, "PropertyName"));
@@ -192,7 +197,9 @@ fn all_clauses(
     kind: Option<u32>,
     elements: &[Element],
 ) -> Result<Clauses, AskFault>
-    ensures { GivesBut AskFault.OutOfMemory (λ x. x) result (each (next_clause (option_copied parameters.entry) schema.now kind) no_clauses elements.now) }
+    ensures { GivesBut AskFault.OutOfMemory (λ x. x) result
+        (each (next_clause (option_copied parameters.entry) schema.now kind) no_clauses
+        elements.now) }
 {
     let mut found = Clauses {
         filter: None,
@@ -224,7 +231,8 @@ pub(crate) fn query_of(
     schema: &Schema,
     element: &Element,
 ) -> Result<Query, AskFault>
-    ensures { GivesBut AskFault.OutOfMemory (λ x. x) result (query_of (option_copied parameters.entry) schema.now element.now) }
+    ensures { GivesBut AskFault.OutOfMemory (λ x. x) result
+        (query_of (option_copied parameters.entry) schema.now element.now) }
 {
     let kind = type_of(alloc, schema, element)?;
     srs_of(alloc, schema.srs.items(), &Attributes { of: element })?;

@@ -20,8 +20,10 @@ pub(crate) fn none_seen(alloc: Global) -> Seen
 
 // Notes a name. It is told whether the name is new.
 fn note_text(seen: &mut Seen, name: String) -> Mem<bool>
-    ensures new { IfOk result (λ is_new. is_new ≡ not (contains_text seen.old (string_bytes name))) }
-    ensures seen { OnOk result ((q : List ℕ) → contains_text seen.new q ≡ (contains_text seen.old q || bytes_eq (string_bytes name) q)) }
+    ensures new { IfOk result (λ is_new. is_new
+        ≡ not (contains_text seen.old (string_bytes name))) }
+    ensures seen { OnOk result ((q : List ℕ) → contains_text seen.new q
+        ≡ (contains_text seen.old q || bytes_eq (string_bytes name) q)) }
 {
     Ok(seen.insert(name)?)
 }
@@ -29,15 +31,19 @@ fn note_text(seen: &mut Seen, name: String) -> Mem<bool>
 /// Notes a name, in its own case. It is told whether the name is new.
 pub(crate) fn note(alloc: Global, seen: &mut Seen, name: &str) -> Mem<bool>
     ensures new { IfOk result (λ is_new. is_new ≡ not (contains_text seen.old name.now)) }
-    ensures seen { OnOk result ((q : List ℕ) → contains_text seen.new q ≡ (contains_text seen.old q || bytes_eq name.now q)) }
+    ensures seen { OnOk result ((q : List ℕ) → contains_text seen.new q
+        ≡ (contains_text seen.old q || bytes_eq name.now q)) }
 {
     note_text(seen, String::from_str(alloc, name)?)
 }
 
 /// Notes a name, with the case of its ASCII letters left out. It is told whether the name is new.
 pub(crate) fn note_without_case(alloc: Global, seen: &mut Seen, name: &str) -> Mem<bool>
-    ensures new { let low = str_to_ascii_lowercase in IfOk result (λ is_new. is_new ≡ not (contains_text seen.old (low name.now))) }
-    ensures seen { let low = str_to_ascii_lowercase in OnOk result ((q : List ℕ) → contains_text seen.new q ≡ (contains_text seen.old q || bytes_eq (low name.now) q)) }
+    ensures new { let low = str_to_ascii_lowercase in IfOk result
+        (λ is_new. is_new ≡ not (contains_text seen.old (low name.now))) }
+    ensures seen { let low = str_to_ascii_lowercase in OnOk result
+        ((q : List ℕ) → contains_text seen.new q
+        ≡ (contains_text seen.old q || bytes_eq (low name.now) q)) }
 {
     note_text(seen, name.to_ascii_lowercase(alloc)?)
 }

@@ -36,7 +36,8 @@ fn sorted_by(
     of_type: Option<&FeatureType>,
     element: &Element,
 ) -> Result<u32, AskFault>
-    ensures { GivesBut AskFault.OutOfMemory (λ x. x) result (sorted_by (option_copied of_type.entry) element.now) }
+    ensures { GivesBut AskFault.OutOfMemory (λ x. x) result
+        (sorted_by (option_copied of_type.entry) element.now) }
 {
     let name = text_alone(alloc, element)?;
     sortable(alloc, name.as_str(), property_in(of_type, name.as_str()))
@@ -99,7 +100,8 @@ fn key_in(
     whole: &Element,
     elements: &[Element],
 ) -> Result<SortKey, AskFault>
-    ensures { GivesBut AskFault.OutOfMemory (λ x. x) result (key_in (option_copied of_type.entry) whole.now elements.now) }
+    ensures { GivesBut AskFault.OutOfMemory (λ x. x) result
+        (key_in (option_copied of_type.entry) whole.now elements.now) }
 {
     match elements {
         [] => Err(misplaced(alloc, whole)),
@@ -120,7 +122,8 @@ fn sort_key(
     of_type: Option<&FeatureType>,
     element: &Element,
 ) -> Result<SortKey, AskFault>
-    ensures { GivesBut AskFault.OutOfMemory (λ x. x) result (sort_key (option_copied of_type.entry) element.now) }
+    ensures { GivesBut AskFault.OutOfMemory (λ x. x) result
+        (sort_key (option_copied of_type.entry) element.now) }
 {
     if !is_fes(element, "SortProperty") {
         return Err(misplaced(alloc, element));
@@ -143,7 +146,8 @@ fn add_key(
     found: &mut Vec<SortKey>,
     element: &Element,
 ) -> Result<(), AskFault>
-    ensures { GivesBut AskFault.OutOfMemory (λ _. found.new.items) result (next_key (option_copied of_type.entry) found.old.items element.now) }
+    ensures { GivesBut AskFault.OutOfMemory (λ _. found.new.items) result
+        (next_key (option_copied of_type.entry) found.old.items element.now) }
 {
     let key = sort_key(alloc, of_type, element)?;
     push_key(found, key)?;
@@ -156,7 +160,8 @@ fn all_keys(
     of_type: Option<&FeatureType>,
     elements: &[Element],
 ) -> Result<Vec<SortKey>, AskFault>
-    ensures { GivesBut AskFault.OutOfMemory (λ v. v.items) result (each (next_key (option_copied of_type.entry)) [] elements.now) }
+    ensures { GivesBut AskFault.OutOfMemory (λ v. v.items) result
+        (each (next_key (option_copied of_type.entry)) [] elements.now) }
 {
     let mut found = Vec::new(alloc);
     for element in elements {
@@ -172,7 +177,8 @@ pub(crate) fn keys_of(
     of_type: Option<&FeatureType>,
     element: &Element,
 ) -> Result<List<SortKey>, AskFault>
-    ensures { GivesBut AskFault.OutOfMemory (λ x. x) result (keys_of (option_copied of_type.entry) element.now) }
+    ensures { GivesBut AskFault.OutOfMemory (λ x. x) result
+        (keys_of (option_copied of_type.entry) element.now) }
 {
     no_others(alloc, element, &[])?;
     let keys = all_keys(alloc, of_type, element.children.items())?;

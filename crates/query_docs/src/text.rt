@@ -25,14 +25,17 @@ use wfs_model::AskFault;
 // ---- writing
 
 fn put_tree<S: Sink>(sink: &mut S, failed: bool, names: &Prefixes, tree: &Element) -> bool
-    ensures { Writes (record { shown = S.sink sink.old; failed = failed }) (document_text names.now tree.now) (record { shown = S.sink sink.new; failed = result }) }
+    ensures { Writes (record { shown = S.sink sink.old; failed = failed })
+        (document_text names.now tree.now) (record { shown = S.sink sink.new; failed = result }) }
 {
     failed || put_element(tree, names, sink).is_err()
 }
 
 // Each tree as a document by itself.
 fn put_trees<S: Sink>(sink: &mut S, failed: bool, names: &Prefixes, trees: &[Element]) -> bool
-    ensures { Writes (record { shown = S.sink sink.old; failed = failed }) (flat_map (document_text names.now) trees.now) (record { shown = S.sink sink.new; failed = result }) }
+    ensures { Writes (record { shown = S.sink sink.old; failed = failed })
+        (flat_map (document_text names.now) trees.now)
+        (record { shown = S.sink sink.new; failed = result }) }
 {
     let mut failed = failed;
     for tree in trees {
@@ -126,7 +129,8 @@ fn queries_of(
     schema: &Schema,
     elements: &[Element],
 ) -> Result<List<Query>, StoredTextFault>
-    ensures { GivesBut NoMemory (λ x. x) result (or_bad (each (next_query names.now schema.now) [] elements.now)) }
+    ensures { GivesBut NoMemory (λ x. x) result
+        (or_bad (each (next_query names.now schema.now) [] elements.now)) }
 {
     match all_queries(alloc, names, schema, elements) {
         Ok(queries) => Ok(List::of(queries)),
@@ -178,8 +182,10 @@ pub fn read_text(
     parameters: &List<Text>,
     schema: &Schema,
 ) -> Result<List<Query>, StoredTextFault>
-    ensures gives { GivesBut NoMemory (λ x. x) result (text_queries schema.now parameters.now text.now) }
-    ensures of_schema { IfOk result (λ queries. All (IsQueryOf schema.now (length parameters.now)) queries) }
+    ensures gives { GivesBut NoMemory (λ x. x) result
+        (text_queries schema.now parameters.now text.now) }
+    ensures of_schema { IfOk result (λ queries. All (IsQueryOf schema.now (length parameters.now))
+        queries) }
 {
     text_queries(alloc, parameters, schema, text)
 }

@@ -178,7 +178,8 @@ fn filter_trees(
     kind: Option<u32>,
     filter: Option<&Filter>,
 ) -> Mem<Vec<Element>>
-    ensures { IfOk result (λ v. v.items ≡ filter_trees names.now schema.now kind (option_copied filter.entry)) }
+    ensures { IfOk result (λ v. v.items ≡ filter_trees names.now schema.now kind
+        (option_copied filter.entry)) }
 {
     match filter {
         None => Ok(Vec::new(alloc)),
@@ -206,7 +207,8 @@ fn type_name(of_type: Option<&FeatureType>) -> &str
 
 #[tactic(auto, unfolding(fes_docs::specs::Written::attribute, gml_docs::specs::Written::plain_name))]
 fn type_names(alloc: Global, schema: &Schema, kind: Option<u32>) -> Mem<Attribute>
-    ensures { IfOk result (λ a. a ≡ attribute (codes "typeNames") (prefixed schema.now.prefix (type_name (type_in schema.now kind)))) }
+    ensures { IfOk result (λ a. a ≡ attribute (codes "typeNames")
+        (prefixed schema.now.prefix (type_name (type_in schema.now kind)))) }
 {
     let name = name_of(alloc, "", "typeNames")?;
     let value = prefixed(alloc, schema, type_name(type_in(schema, kind)))?;

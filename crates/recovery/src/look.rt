@@ -34,11 +34,13 @@ fn load<D: Disk>(
     requires { limit ≤ greatest_side }
     ensures side { IfOk result (λ s. IsSide s × (s.limit ≡ limit) × (s.second ≡ second)) }
     ensures file { IfOk result (λ s. IfSome (D.shown disk.old) (IsFile s)) }
-    ensures fault { IfErr result (λ e. (e ≡ RecoverFault.DiskFault) ⊎ (e ≡ RecoverFault.OutOfMemory)) }
+    ensures fault { IfErr result (λ e. (e ≡ RecoverFault.DiskFault)
+        ⊎ (e ≡ RecoverFault.OutOfMemory)) }
     ensures same { D.shown disk.new ≡ D.shown disk.old }
     ensures crash { Leads D.moment D.since D.images Same disk.old disk.new }
     ensures count { D.faults disk.old ≤ D.faults disk.new }
-    ensures cause { result ≡ Err RecoverFault.DiskFault → Rose (D.faults disk.old) (D.faults disk.new) }
+    ensures cause { result ≡ Err RecoverFault.DiskFault
+        → Rose (D.faults disk.old) (D.faults disk.new) }
 {
     let len = match disk.len() {
         Ok(len) => len,
@@ -76,10 +78,14 @@ fn ending_of<R: Replay>(read: &Side, replay: &mut R) -> Result<Ending, RecoverFa
     requires held { IsSide read.now }
     requires within { 17 ≤ read.now.limit }
     requires first { R.taken replay.old ≡ [] }
-    ensures answer { (c : List ℕ) → IsFile read.now c → 17 ≤ length c → SideRead result (of_side (R.verdict replay.old) read.now.limit read.now.second c) read.now.second c (R.taken replay.new) }
+    ensures answer { (c : List ℕ) → IsFile read.now c → 17 ≤ length c
+        → SideRead result (of_side (R.verdict replay.old) read.now.limit read.now.second c)
+        read.now.second c (R.taken replay.new) }
     ensures fault { result ≡ Err RecoverFault.DiskFault → ⊥ }
-    ensures ends { IfOk result (λ e. (c : List ℕ) → IsFile read.now c → (generation : ℕ) → Able generation c → EndsAt e generation (R.taken replay.new) c) }
-    ensures size { IfOk result (λ e. (generation : ℕ) → length (side generation (R.taken replay.new)) ≡ e.gate) }
+    ensures ends { IfOk result (λ e. (c : List ℕ) → IsFile read.now c → (generation : ℕ)
+        → Able generation c → EndsAt e generation (R.taken replay.new) c) }
+    ensures size { IfOk result (λ e. (generation : ℕ)
+        → length (side generation (R.taken replay.new)) ≡ e.gate) }
     ensures fits { IfOk result (λ e. AllByRecursion Fits (R.taken replay.new)) }
     ensures within { IfOk result (λ e. e.gate + 1 ≤ read.now.limit) }
     ensures setting { R.setting replay.new ≡ R.setting replay.old }
@@ -110,9 +116,13 @@ fn read_side<D: Disk, R: Replay>(
 ) -> Result<Ending, RecoverFault>
     requires limit { limit ≤ greatest_side }
     requires first { R.taken replay.old ≡ [] }
-    ensures answer { IfSome (D.shown disk.old) (λ c. 17 ≤ length c → SideRead result (of_side (R.verdict replay.old) limit second c) second c (R.taken replay.new)) }
-    ensures ends { IfOk result (λ e. IfSome (D.shown disk.old) (λ c. (generation : ℕ) → Able generation c → EndsAt e generation (R.taken replay.new) c)) }
-    ensures size { IfOk result (λ e. (generation : ℕ) → length (side generation (R.taken replay.new)) ≡ e.gate) }
+    ensures answer { IfSome (D.shown disk.old)
+        (λ c. 17 ≤ length c → SideRead result (of_side (R.verdict replay.old) limit second c) second
+        c (R.taken replay.new)) }
+    ensures ends { IfOk result (λ e. IfSome (D.shown disk.old)
+        (λ c. (generation : ℕ) → Able generation c → EndsAt e generation (R.taken replay.new) c)) }
+    ensures size { IfOk result (λ e. (generation : ℕ)
+        → length (side generation (R.taken replay.new)) ≡ e.gate) }
     ensures fits { IfOk result (λ e. AllByRecursion Fits (R.taken replay.new)) }
     ensures within { IfOk result (λ e. e.gate + 1 ≤ limit) }
     ensures setting { R.setting replay.new ≡ R.setting replay.old }
@@ -120,7 +130,8 @@ fn read_side<D: Disk, R: Replay>(
     ensures same { D.shown disk.new ≡ D.shown disk.old }
     ensures crash { Leads D.moment D.since D.images Same disk.old disk.new }
     ensures count { D.faults disk.old ≤ D.faults disk.new }
-    ensures cause { result ≡ Err RecoverFault.DiskFault → Rose (D.faults disk.old) (D.faults disk.new) }
+    ensures cause { result ≡ Err RecoverFault.DiskFault
+        → Rose (D.faults disk.old) (D.faults disk.new) }
 {
     if limit < 17 {
         return Err(RecoverFault::Full(17));
@@ -140,9 +151,13 @@ fn read_chosen<D: Disk, R: Replay>(
 ) -> Result<Ending, RecoverFault>
     requires limit { limit ≤ greatest_side }
     requires first { R.taken replay.old ≡ [] }
-    ensures answer { IfSome (D.shown (chosen second disks.old)) (λ c. 17 ≤ length c → SideRead result (of_side (R.verdict replay.old) limit second c) second c (R.taken replay.new)) }
-    ensures ends { IfOk result (λ e. IfSome (D.shown (chosen second disks.old)) (λ c. (generation : ℕ) → Able generation c → EndsAt e generation (R.taken replay.new) c)) }
-    ensures size { IfOk result (λ e. (generation : ℕ) → length (side generation (R.taken replay.new)) ≡ e.gate) }
+    ensures answer { IfSome (D.shown (chosen second disks.old))
+        (λ c. 17 ≤ length c → SideRead result (of_side (R.verdict replay.old) limit second c) second
+        c (R.taken replay.new)) }
+    ensures ends { IfOk result (λ e. IfSome (D.shown (chosen second disks.old))
+        (λ c. (generation : ℕ) → Able generation c → EndsAt e generation (R.taken replay.new) c)) }
+    ensures size { IfOk result (λ e. (generation : ℕ)
+        → length (side generation (R.taken replay.new)) ≡ e.gate) }
     ensures fits { IfOk result (λ e. AllByRecursion Fits (R.taken replay.new)) }
     ensures within { IfOk result (λ e. e.gate + 1 ≤ limit) }
     ensures setting { R.setting replay.new ≡ R.setting replay.old }
@@ -180,7 +195,8 @@ pub(crate) struct Found {
 fn read_choice<D: Disk>(disks: &mut Pair<D>) -> Result<Choice, Failed>
     ensures first { IfOk result (λ h. IfSome (D.shown disks.old.a) (FirstIs h)) }
     ensures second { IfOk result (λ h. IfSome (D.shown disks.old.b) (SecondIs h)) }
-    ensures foreign { IfOk result (λ h. IfSome (D.shown disks.old.a) (λ a. IfSome (D.shown disks.old.b) (IsForeign h a))) }
+    ensures foreign { IfOk result (λ h. IfSome (D.shown disks.old.a)
+        (λ a. IfSome (D.shown disks.old.b) (IsForeign h a))) }
     ensures untouched { Untouched D.shown D.moment D.since D.images disks.old disks.new }
     ensures count { NoneFell D.faults disks.old disks.new }
     ensures cause { OnErr result (OneRose D.faults disks.old disks.new) }
@@ -198,7 +214,8 @@ pub(crate) fn look<D: Disk, R: Replay>(
     replay: &mut R,
 ) -> Result<Looked, RecoverFault>
     requires { limit ≤ greatest_side }
-    ensures answer { (a b : List ℕ) → D.shown disks.old.a ≡ Some a → D.shown disks.old.b ≡ Some b → LookedIs result (outcome_of (R.verdict replay.old) limit a b) (R.taken replay.new) }
+    ensures answer { (a b : List ℕ) → D.shown disks.old.a ≡ Some a → D.shown disks.old.b ≡ Some b
+        → LookedIs result (outcome_of (R.verdict replay.old) limit a b) (R.taken replay.new) }
     ensures known { IfOk result (λ l. LookedAt D.shown l limit (R.taken replay.new) disks.old) }
     ensures setting { R.setting replay.new ≡ R.setting replay.old }
     ensures verdict { R.verdict replay.new ≡ R.verdict replay.old }

@@ -33,9 +33,13 @@ fn start<D: Disk>(
     requires rests { NothingAt D.shown first_is_stale second_is_stale disks }
     ensures rests { IfOk result (λ j. Rests D.images [] (seen j)) }
     ensures made { IfOk result (λ j. Current false 1 16 j × (limit_of j ≡ side) × (17 ≤ side)) }
-    ensures goes { IfOk result (λ j. Dormant first_is_stale (D.images disks.a) → Dormant second_is_stale (D.images disks.b) → Always D.moment D.since Nothing disks (disks_of j)) }
-    ensures goes_err { IfErr result (λ e. Dormant first_is_stale (D.images disks.a) → Dormant second_is_stale (D.images disks.b) → Always D.moment D.since Nothing disks e.0) }
-    ensures fault { IfErr result (λ e. (e.1 ≡ RecoverFault.DiskFault) ⊎ ((e.1 ≡ RecoverFault.Full 17) × (side < 17) × (e.0 ≡ disks))) }
+    ensures goes { IfOk result (λ j. Dormant first_is_stale (D.images disks.a)
+        → Dormant second_is_stale (D.images disks.b)
+        → Always D.moment D.since Nothing disks (disks_of j)) }
+    ensures goes_err { IfErr result (λ e. Dormant first_is_stale (D.images disks.a)
+        → Dormant second_is_stale (D.images disks.b) → Always D.moment D.since Nothing disks e.0) }
+    ensures fault { IfErr result (λ e. (e.1 ≡ RecoverFault.DiskFault)
+        ⊎ ((e.1 ≡ RecoverFault.Full 17) × (side < 17) × (e.0 ≡ disks))) }
     ensures count { IfOk result (λ j. NoneFell D.faults disks (disks_of j)) }
     ensures count_err { IfErr result (λ e. NoneFell D.faults disks e.0) }
     ensures cause { IfErr result (λ e. e.1 ≡ RecoverFault.DiskFault → OneRose D.faults disks e.0) }
@@ -62,10 +66,16 @@ fn take_over<D: Disk>(
     requires limit { side ≤ greatest_side }
     requires stable { AllStable D.shown D.images disks disks }
     requires at { (taken : List (List ℕ)) × FoundAt D.shown found side taken disks }
-    ensures rests { IfOk result (λ j. (taken : List (List ℕ)) → FoundAt D.shown found side taken disks → Rests D.images taken (seen j)) }
-    ensures told { IfOk result (λ j. Current found.second found.generation found.gate j × (limit_of j ≡ side)) }
-    ensures goes { IfOk result (λ j. (r : Reading) → Known D.images found.second found.gate found.is_stale found.is_closed r disks → Always D.moment D.since (SaysOr found.is_closed r) disks (disks_of j)) }
-    ensures goes_err { IfErr result (λ e. (r : Reading) → Known D.images found.second found.gate found.is_stale found.is_closed r disks → Always D.moment D.since (SaysOr found.is_closed r) disks e.0) }
+    ensures rests { IfOk result (λ j. (taken : List (List ℕ))
+        → FoundAt D.shown found side taken disks → Rests D.images taken (seen j)) }
+    ensures told { IfOk result (λ j. Current found.second found.generation found.gate j
+        × (limit_of j ≡ side)) }
+    ensures goes { IfOk result (λ j. (r : Reading)
+        → Known D.images found.second found.gate found.is_stale found.is_closed r disks
+        → Always D.moment D.since (SaysOr found.is_closed r) disks (disks_of j)) }
+    ensures goes_err { IfErr result (λ e. (r : Reading)
+        → Known D.images found.second found.gate found.is_stale found.is_closed r disks
+        → Always D.moment D.since (SaysOr found.is_closed r) disks e.0) }
     ensures gates { IfOk result (λ j. Settles D.moment D.since D.images found disks (disks_of j)) }
     ensures gates_err { IfErr result (λ e. Settles D.moment D.since D.images found disks e.0) }
     ensures fault { IfErr result (λ e. e.1 ≡ RecoverFault.DiskFault) }
@@ -106,15 +116,32 @@ pub fn recover<D: Disk, R: Replay>(
     requires { side ≤ greatest_side }
     ensures rests { IfOk result (λ j. Rests D.images (R.taken replay.new) (seen j)) }
     ensures limit { IfOk result (λ j. limit_of j ≡ side) }
-    ensures answer { IfOk result (λ j. (a b : List ℕ) → D.shown disks.a ≡ Some a → D.shown disks.b ≡ Some b → Answered j (outcome_of (R.verdict replay.old) side a b) side (R.taken replay.new)) }
-    ensures refused { IfErr result (λ e. (a b : List ℕ) → D.shown disks.a ≡ Some a → D.shown disks.b ≡ Some b → AnsweredErr e.1 (outcome_of (R.verdict replay.old) side a b) side (R.taken replay.new)) }
-    ensures unwritten { IfErr result (λ e. (e.1 ≡ RecoverFault.DiskFault → ⊥) → Untouched D.shown D.moment D.since D.images disks e.0) }
-    ensures gates { IfOk result (λ j. (a b : List ℕ) → D.shown disks.a ≡ Some a → D.shown disks.b ≡ Some b → OnlyGates D.shown D.moment D.since D.images (outcome_of (R.verdict replay.old) side a b) a b disks (disks_of j)) }
-    ensures gates_err { IfErr result (λ e. (a b : List ℕ) → D.shown disks.a ≡ Some a → D.shown disks.b ≡ Some b → OnlyGates D.shown D.moment D.since D.images (outcome_of (R.verdict replay.old) side a b) a b disks e.0) }
-    ensures crash { IfOk result (λ j. (a b : List ℕ) (lists : List (List (List ℕ))) → D.shown disks.a ≡ Some a → D.shown disks.b ≡ Some b → (s : Says lists a b) → OnceSynced D.shown D.moment D.since D.images (WithTail lists s) disks (disks_of j)) }
-    ensures crash_err { IfErr result (λ e. (a b : List ℕ) (lists : List (List (List ℕ))) → D.shown disks.a ≡ Some a → D.shown disks.b ≡ Some b → (s : Says lists a b) → AfterSync D.shown D.moment D.since D.images (WithTail lists s) disks e.0) }
-    ensures nothing { IfOk result (λ j. (a b : List ℕ) → D.shown disks.a ≡ Some a → D.shown disks.b ≡ Some b → Unmade a → Unmade b → OnceSynced D.shown D.moment D.since D.images Nothing disks (disks_of j)) }
-    ensures nothing_err { IfErr result (λ e. (a b : List ℕ) → D.shown disks.a ≡ Some a → D.shown disks.b ≡ Some b → Unmade a → Unmade b → AfterSync D.shown D.moment D.since D.images Nothing disks e.0) }
+    ensures answer { IfOk result (λ j. (a b : List ℕ) → D.shown disks.a ≡ Some a
+        → D.shown disks.b ≡ Some b → Answered j (outcome_of (R.verdict replay.old) side a b) side
+        (R.taken replay.new)) }
+    ensures refused { IfErr result (λ e. (a b : List ℕ) → D.shown disks.a ≡ Some a
+        → D.shown disks.b ≡ Some b → AnsweredErr e.1 (outcome_of (R.verdict replay.old) side a b)
+        side (R.taken replay.new)) }
+    ensures unwritten { IfErr result (λ e. (e.1 ≡ RecoverFault.DiskFault → ⊥)
+        → Untouched D.shown D.moment D.since D.images disks e.0) }
+    ensures gates { IfOk result (λ j. (a b : List ℕ) → D.shown disks.a ≡ Some a
+        → D.shown disks.b ≡ Some b → OnlyGates D.shown D.moment D.since D.images
+        (outcome_of (R.verdict replay.old) side a b) a b disks (disks_of j)) }
+    ensures gates_err { IfErr result (λ e. (a b : List ℕ) → D.shown disks.a ≡ Some a
+        → D.shown disks.b ≡ Some b → OnlyGates D.shown D.moment D.since D.images
+        (outcome_of (R.verdict replay.old) side a b) a b disks e.0) }
+    ensures crash { IfOk result (λ j. (a b : List ℕ) (lists : List (List (List ℕ)))
+        → D.shown disks.a ≡ Some a → D.shown disks.b ≡ Some b → (s : Says lists a b)
+        → OnceSynced D.shown D.moment D.since D.images (WithTail lists s) disks (disks_of j)) }
+    ensures crash_err { IfErr result (λ e. (a b : List ℕ) (lists : List (List (List ℕ)))
+        → D.shown disks.a ≡ Some a → D.shown disks.b ≡ Some b → (s : Says lists a b)
+        → AfterSync D.shown D.moment D.since D.images (WithTail lists s) disks e.0) }
+    ensures nothing { IfOk result (λ j. (a b : List ℕ) → D.shown disks.a ≡ Some a
+        → D.shown disks.b ≡ Some b → Unmade a → Unmade b
+        → OnceSynced D.shown D.moment D.since D.images Nothing disks (disks_of j)) }
+    ensures nothing_err { IfErr result (λ e. (a b : List ℕ) → D.shown disks.a ≡ Some a
+        → D.shown disks.b ≡ Some b → Unmade a → Unmade b
+        → AfterSync D.shown D.moment D.since D.images Nothing disks e.0) }
     ensures setting { R.setting replay.new ≡ R.setting replay.old }
     ensures verdict { R.verdict replay.new ≡ R.verdict replay.old }
     ensures count { IfOk result (λ j. NoneFell D.faults disks (disks_of j)) }
@@ -142,8 +169,12 @@ pub fn look_over<D: Disk, R: Replay>(
     replay: &mut R,
 ) -> Result<u64, RecoverFault>
     requires { side ≤ greatest_side }
-    ensures answer { IfOk result (λ n. (a b : List ℕ) → D.shown disks.old.a ≡ Some a → D.shown disks.old.b ≡ Some b → LengthIs n (outcome_of (R.verdict replay.old) side a b) (R.taken replay.new)) }
-    ensures refused { IfErr result (λ e. (a b : List ℕ) → D.shown disks.old.a ≡ Some a → D.shown disks.old.b ≡ Some b → RefusesOr e (outcome_of (R.verdict replay.old) side a b) (R.taken replay.new)) }
+    ensures answer { IfOk result (λ n. (a b : List ℕ) → D.shown disks.old.a ≡ Some a
+        → D.shown disks.old.b ≡ Some b
+        → LengthIs n (outcome_of (R.verdict replay.old) side a b) (R.taken replay.new)) }
+    ensures refused { IfErr result (λ e. (a b : List ℕ) → D.shown disks.old.a ≡ Some a
+        → D.shown disks.old.b ≡ Some b
+        → RefusesOr e (outcome_of (R.verdict replay.old) side a b) (R.taken replay.new)) }
     ensures unwritten { Untouched D.shown D.moment D.since D.images disks.old disks.new }
     ensures setting { R.setting replay.new ≡ R.setting replay.old }
     ensures verdict { R.verdict replay.new ≡ R.verdict replay.old }

@@ -29,7 +29,8 @@ impl Replay for Keeper {
 
     ghost taken = { λ s. map (λ v. v.items) s.bodies.items };
 
-    ghost verdict = { λ s taken body. if get_or body 0 0 == 33 then bad_bytes else (if get_or body 0 0 == 63 then not_of_schema else accepted) };
+    ghost verdict = { λ s taken body. if get_or body 0 0 == 33 then bad_bytes
+        else (if get_or body 0 0 == 63 then not_of_schema else accepted) };
 
     fn restart(&mut self) {
         self.bodies.clear();

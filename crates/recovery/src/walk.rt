@@ -47,7 +47,8 @@ fn size_at(bytes: &[u8], gate: usize) -> u64
 fn next_record(side: &Side, gate: u64) -> Next
     requires held { IsSide side.now }
     requires within { (gate + 1 ≤ side.now.limit) × (gate < side.now.len) }
-    ensures is { (c : List ℕ) → IsFile side.now c → NextIs result side.now.limit gate side.now.bytes.items c }
+    ensures is { (c : List ℕ) → IsFile side.now c
+        → NextIs result side.now.limit gate side.now.bytes.items c }
     ensures fits { NextFits result side.now.limit side.now.len gate side.now.bytes.items }
 {
     let at = gate as usize;
@@ -90,7 +91,9 @@ fn turn<R: Replay>(
     requires held { IsSide side.now }
     requires within { (gate + 1 ≤ side.now.limit) × (gate < side.now.len) }
     requires number { number ≡ length (R.taken replay.old) }
-    ensures answer { (c : List ℕ) (generation : ℕ) → IsFile side.now c → Turned result (left (R.verdict replay.old) side.now.limit side.now.second generation c) side.now.second generation gate (R.taken replay.old) (R.taken replay.new) }
+    ensures answer { (c : List ℕ) (generation : ℕ) → IsFile side.now c
+        → Turned result (left (R.verdict replay.old) side.now.limit side.now.second generation c)
+        side.now.second generation gate (R.taken replay.old) (R.taken replay.new) }
     ensures no_disk { result ≡ Err RecoverFault.DiskFault → ⊥ }
     ensures moves { IfOk result (Moved side.now gate (R.taken replay.old) (R.taken replay.new)) }
     ensures setting { R.setting replay.new ≡ R.setting replay.old }
@@ -119,11 +122,15 @@ pub(crate) fn walk<R: Replay>(side: &Side, replay: &mut R) -> Result<u64, Recove
     requires held { IsSide side.now }
     requires within { (17 ≤ side.now.limit) × (16 < side.now.len) }
     requires first { R.taken replay.old ≡ [] }
-    ensures answer { (c : List ℕ) (generation : ℕ) → IsFile side.now c → Walked result (left (R.verdict replay.old) side.now.limit side.now.second generation c 16 []) side.now.second generation (R.taken replay.new) }
+    ensures answer { (c : List ℕ) (generation : ℕ) → IsFile side.now c
+        → Walked result (left (R.verdict replay.old) side.now.limit side.now.second generation c 16
+        []) side.now.second generation (R.taken replay.new) }
     ensures no_disk { result ≡ Err RecoverFault.DiskFault → ⊥ }
-    ensures spelled { IfOk result (λ gate. take gate side.now.bytes.items ≡ take 16 side.now.bytes.items ++ flat_map opened (R.taken replay.new)) }
+    ensures spelled { IfOk result (λ gate. take gate side.now.bytes.items
+        ≡ take 16 side.now.bytes.items ++ flat_map opened (R.taken replay.new)) }
     ensures fits { IfOk result (λ gate. AllByRecursion Fits (R.taken replay.new)) }
-    ensures within { IfOk result (λ gate. (16 ≤ gate) × (gate + 1 ≤ side.now.limit) × (gate < side.now.len)) }
+    ensures within { IfOk result (λ gate. (16 ≤ gate) × (gate + 1 ≤ side.now.limit)
+        × (gate < side.now.len)) }
     ensures setting { R.setting replay.new ≡ R.setting replay.old }
     ensures verdict { R.verdict replay.new ≡ R.verdict replay.old }
 {

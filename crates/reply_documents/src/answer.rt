@@ -10,14 +10,16 @@ use wfs_ends::{Sink, WriteFault, put_on};
 
 // Gives a text that stands for itself.
 pub(crate) fn put_str<S: Sink>(sink: &mut S, failed: bool, text: &str) -> bool
-    ensures { Writes (record { shown = S.sink sink.old; failed = failed }) text.now (record { shown = S.sink sink.new; failed = result }) }
+    ensures { Writes (record { shown = S.sink sink.old; failed = failed }) text.now
+        (record { shown = S.sink sink.new; failed = result }) }
 {
     put_on(sink, failed, text.as_bytes())
 }
 
 // Gives a number in decimal.
 pub(crate) fn put_number<S: Sink>(sink: &mut S, failed: bool, number: u64) -> bool
-    ensures { Writes (record { shown = S.sink sink.old; failed = failed }) (decimal number) (record { shown = S.sink sink.new; failed = result }) }
+    ensures { Writes (record { shown = S.sink sink.old; failed = failed }) (decimal number)
+        (record { shown = S.sink sink.new; failed = result }) }
 {
     let mut buffer = Buffer::new();
     put_on(sink, failed, buffer.format(number).as_bytes())
@@ -43,7 +45,8 @@ fn phrase_of(status: StatusCode) -> &'static str
 
 // Gives the status line, without its end.
 fn put_status<S: Sink>(sink: &mut S, status: StatusCode) -> bool
-    ensures { Writes (record { shown = S.sink sink.old; failed = false }) (status_line status) (record { shown = S.sink sink.new; failed = result }) }
+    ensures { Writes (record { shown = S.sink sink.old; failed = false }) (status_line status)
+        (record { shown = S.sink sink.new; failed = result }) }
 {
     let failed = put_on(sink, false, b"HTTP/1.1 ");
     let failed = put_number(sink, failed, number_of(status));
@@ -53,7 +56,8 @@ fn put_status<S: Sink>(sink: &mut S, status: StatusCode) -> bool
 
 // Says that the connection ends, where it does.
 fn put_close<S: Sink>(sink: &mut S, failed: bool, close: bool) -> bool
-    ensures { Writes (record { shown = S.sink sink.old; failed = failed }) (close_text close) (record { shown = S.sink sink.new; failed = result }) }
+    ensures { Writes (record { shown = S.sink sink.old; failed = failed }) (close_text close)
+        (record { shown = S.sink sink.new; failed = result }) }
 {
     if close {
         put_on(sink, failed, b"\r\nConnection: close")
@@ -70,7 +74,9 @@ pub(crate) fn put_head<S: Sink>(
     size: u64,
     close: bool,
 ) -> bool
-    ensures { Writes (record { shown = S.sink sink.old; failed = false }) (head_text status media.now size close) (record { shown = S.sink sink.new; failed = result }) }
+    ensures { Writes (record { shown = S.sink sink.old; failed = false })
+        (head_text status media.now size close)
+        (record { shown = S.sink sink.new; failed = result }) }
 {
     let failed = put_status(sink, status);
     let failed = put_on(sink, failed, b"\r\nContent-Type: ");
@@ -83,7 +89,9 @@ pub(crate) fn put_head<S: Sink>(
 
 // Says whether all of a text was given.
 pub(crate) fn finish(failed: bool) -> Result<(), WriteFault>
-    ensures { (first last : Shown) (text : List ℕ) → Writes (record { shown = first; failed = false }) text (record { shown = last; failed = failed }) → Gives result first text last }
+    ensures { (first last : Shown) (text : List ℕ)
+        → Writes (record { shown = first; failed = false }) text
+        (record { shown = last; failed = failed }) → Gives result first text last }
 {
     if failed { Err(WriteFault) } else { Ok(()) }
 }

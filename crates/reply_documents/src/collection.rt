@@ -22,7 +22,8 @@ pub(crate) fn put_declared<S: Sink>(
     root: &[u8],
     schema: &Schema,
 ) -> bool
-    ensures { Writes (record { shown = S.sink sink.old; failed = failed }) (declared_text root.now schema.now) (record { shown = S.sink sink.new; failed = result }) }
+    ensures { Writes (record { shown = S.sink sink.old; failed = failed })
+        (declared_text root.now schema.now) (record { shown = S.sink sink.new; failed = result }) }
 {
     let failed = put_on(sink, failed, b"<?xml version=\"1.0\" encoding=\"UTF-8\"?><");
     let failed = put_on(sink, failed, root);
@@ -38,7 +39,8 @@ pub(crate) fn put_declared<S: Sink>(
 }
 
 fn put_moment<S: Sink>(sink: &mut S, failed: bool, moment: u64) -> bool
-    ensures { Writes (record { shown = S.sink sink.old; failed = failed }) (moment_text moment) (record { shown = S.sink sink.new; failed = result }) }
+    ensures { Writes (record { shown = S.sink sink.old; failed = failed }) (moment_text moment)
+        (record { shown = S.sink sink.new; failed = result }) }
 {
     put_on(sink, failed, &moment_text(moment))
 }
@@ -51,7 +53,9 @@ pub(crate) fn put_counted<S: Sink>(
     matched: u64,
     returned: u64,
 ) -> bool
-    ensures { Writes (record { shown = S.sink sink.old; failed = failed }) (counted_text moment matched returned) (record { shown = S.sink sink.new; failed = result }) }
+    ensures { Writes (record { shown = S.sink sink.old; failed = failed })
+        (counted_text moment matched returned)
+        (record { shown = S.sink sink.new; failed = result }) }
 {
     let failed = put_on(sink, failed, b" timeStamp=\"");
     let failed = put_moment(sink, failed, moment);
@@ -69,7 +73,8 @@ pub(crate) fn put_link<S: Sink>(
     start: &[u8],
     link: &Option<Text>,
 ) -> bool
-    ensures { Writes (record { shown = S.sink sink.old; failed = failed }) (link_text start.now link.now) (record { shown = S.sink sink.new; failed = result }) }
+    ensures { Writes (record { shown = S.sink sink.old; failed = failed })
+        (link_text start.now link.now) (record { shown = S.sink sink.new; failed = result }) }
 {
     match link {
         None => put_on(sink, failed, b""),
@@ -78,7 +83,8 @@ pub(crate) fn put_link<S: Sink>(
 }
 
 fn put_some_link<S: Sink>(sink: &mut S, failed: bool, start: &[u8], link: &Text) -> bool
-    ensures { Writes (record { shown = S.sink sink.old; failed = failed }) (some_link_text start.now link.now) (record { shown = S.sink sink.new; failed = result }) }
+    ensures { Writes (record { shown = S.sink sink.old; failed = failed })
+        (some_link_text start.now link.now) (record { shown = S.sink sink.new; failed = result }) }
 {
     let failed = put_on(sink, failed, start);
     let failed = put_escaped(sink, failed, link, true);
@@ -88,7 +94,8 @@ fn put_some_link<S: Sink>(sink: &mut S, failed: bool, start: &[u8], link: &Text)
 // Gives a feature as a member, where its type is in the schema.
 #[tactic(auto, unfolding(crate::specs::Collection::member_text))]
 fn put_member<S: Sink>(sink: &mut S, failed: bool, schema: &Schema, feature: &Feature) -> bool
-    ensures { Writes (record { shown = S.sink sink.old; failed = failed }) (member_text schema.now feature.now) (record { shown = S.sink sink.new; failed = result }) }
+    ensures { Writes (record { shown = S.sink sink.old; failed = failed })
+        (member_text schema.now feature.now) (record { shown = S.sink sink.new; failed = result }) }
 {
     match find_type(schema, feature.id.kind) {
         None => put_on(sink, failed, b""),
@@ -104,7 +111,9 @@ fn put_typed_member<S: Sink>(
     of_type: &FeatureType,
     feature: &Feature,
 ) -> bool
-    ensures { Writes (record { shown = S.sink sink.old; failed = failed }) (typed_member_text schema.now of_type.now feature.now) (record { shown = S.sink sink.new; failed = result }) }
+    ensures { Writes (record { shown = S.sink sink.old; failed = failed })
+        (typed_member_text schema.now of_type.now feature.now)
+        (record { shown = S.sink sink.new; failed = result }) }
 {
     let failed = put_on(sink, failed, b"<wfs:member>");
     let failed = put_feature(sink, failed, schema, of_type, feature);
@@ -118,7 +127,9 @@ fn put_each_member<S: Sink>(
     schema: &Schema,
     features: &List<Feature>,
 ) -> bool
-    ensures { Writes (record { shown = S.sink sink.old; failed = failed }) (flat_map (member_text schema.now) features.now) (record { shown = S.sink sink.new; failed = result }) }
+    ensures { Writes (record { shown = S.sink sink.old; failed = failed })
+        (flat_map (member_text schema.now) features.now)
+        (record { shown = S.sink sink.new; failed = result }) }
 {
     let mut failed = put_on(sink, failed, b"");
     for feature in features.items() {
@@ -133,7 +144,9 @@ fn put_some_members<S: Sink>(
     schema: &Schema,
     features: &List<Feature>,
 ) -> bool
-    ensures { Writes (record { shown = S.sink sink.old; failed = failed }) (some_members_text schema.now features.now) (record { shown = S.sink sink.new; failed = result }) }
+    ensures { Writes (record { shown = S.sink sink.old; failed = failed })
+        (some_members_text schema.now features.now)
+        (record { shown = S.sink sink.new; failed = result }) }
 {
     let failed = put_on(sink, failed, b">");
     let failed = put_each_member(sink, failed, schema, features);
@@ -148,7 +161,9 @@ fn put_members<S: Sink>(
     schema: &Schema,
     features: &List<Feature>,
 ) -> bool
-    ensures { Writes (record { shown = S.sink sink.old; failed = failed }) (members_text schema.now features.now) (record { shown = S.sink sink.new; failed = result }) }
+    ensures { Writes (record { shown = S.sink sink.old; failed = failed })
+        (members_text schema.now features.now)
+        (record { shown = S.sink sink.new; failed = result }) }
 {
     if features.items().is_empty() {
         put_on(sink, failed, b"/>")
@@ -176,7 +191,9 @@ pub(crate) fn put_collection<S: Sink>(
     next: &Option<Text>,
     previous: &Option<Text>,
 ) -> bool
-    ensures { Writes (record { shown = S.sink sink.old; failed = failed }) (collection_body schema.now moment matched features.now lock.now next.now previous.now) (record { shown = S.sink sink.new; failed = result }) }
+    ensures { Writes (record { shown = S.sink sink.old; failed = failed })
+        (collection_body schema.now moment matched features.now lock.now next.now previous.now)
+        (record { shown = S.sink sink.new; failed = result }) }
 {
     let failed = put_declared(sink, failed, b"wfs:FeatureCollection", schema);
     let failed = put_counted(sink, failed, moment, matched, count(features));

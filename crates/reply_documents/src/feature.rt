@@ -27,7 +27,8 @@ pub(crate) fn put_rid<S: Sink>(
     of_type: &FeatureType,
     number: u64,
 ) -> bool
-    ensures { Writes (record { shown = S.sink sink.old; failed = failed }) (rid_text of_type.now number) (record { shown = S.sink sink.new; failed = result }) }
+    ensures { Writes (record { shown = S.sink sink.old; failed = failed })
+        (rid_text of_type.now number) (record { shown = S.sink sink.new; failed = result }) }
 {
     let failed = put_escaped(sink, failed, &of_type.name, true);
     let failed = put_on(sink, failed, b".");
@@ -44,7 +45,9 @@ fn put_pairs<S: Sink>(
     properties: &[Property],
     values: &[Value],
 ) -> bool
-    ensures { Writes (record { shown = S.sink sink.old; failed = failed }) (flat_map (property_text schema.now of_type.now number) (zip properties.now values.now)) (record { shown = S.sink sink.new; failed = result }) }
+    ensures { Writes (record { shown = S.sink sink.old; failed = failed })
+        (flat_map (property_text schema.now of_type.now number) (zip properties.now values.now))
+        (record { shown = S.sink sink.new; failed = result }) }
 {
     let mut failed = failed;
     let count = properties.len().min(values.len());
@@ -69,7 +72,9 @@ fn put_properties<S: Sink>(
     of_type: &FeatureType,
     feature: &Feature,
 ) -> bool
-    ensures { Writes (record { shown = S.sink sink.old; failed = failed }) (properties_text schema.now of_type.now feature.now.id.number feature.now.values) (record { shown = S.sink sink.new; failed = result }) }
+    ensures { Writes (record { shown = S.sink sink.old; failed = failed })
+        (properties_text schema.now of_type.now feature.now.id.number feature.now.values)
+        (record { shown = S.sink sink.new; failed = result }) }
 {
     put_pairs(
         sink,
@@ -97,7 +102,9 @@ fn put_filled<S: Sink>(
     of_type: &FeatureType,
     feature: &Feature,
 ) -> bool
-    ensures { Writes (record { shown = S.sink sink.old; failed = failed }) (filled_text schema.now of_type.now feature.now.id.number feature.now.values) (record { shown = S.sink sink.new; failed = result }) }
+    ensures { Writes (record { shown = S.sink sink.old; failed = failed })
+        (filled_text schema.now of_type.now feature.now.id.number feature.now.values)
+        (record { shown = S.sink sink.new; failed = result }) }
 {
     let failed = put_on(sink, failed, b">");
     let failed = put_properties(sink, failed, schema, of_type, feature);
@@ -113,7 +120,9 @@ fn put_inside<S: Sink>(
     of_type: &FeatureType,
     feature: &Feature,
 ) -> bool
-    ensures { Writes (record { shown = S.sink sink.old; failed = failed }) (inside_text schema.now of_type.now feature.now.id.number feature.now.values) (record { shown = S.sink sink.new; failed = result }) }
+    ensures { Writes (record { shown = S.sink sink.old; failed = failed })
+        (inside_text schema.now of_type.now feature.now.id.number feature.now.values)
+        (record { shown = S.sink sink.new; failed = result }) }
 {
     if has_value(of_type.properties.items(), feature.items()) {
         put_filled(sink, failed, schema, of_type, feature)
@@ -130,7 +139,9 @@ pub(crate) fn put_feature<S: Sink>(
     of_type: &FeatureType,
     feature: &Feature,
 ) -> bool
-    ensures { Writes (record { shown = S.sink sink.old; failed = failed }) (feature_text schema.now of_type.now feature.now) (record { shown = S.sink sink.new; failed = result }) }
+    ensures { Writes (record { shown = S.sink sink.old; failed = failed })
+        (feature_text schema.now of_type.now feature.now)
+        (record { shown = S.sink sink.new; failed = result }) }
 {
     let failed = put_on(sink, failed, b"<");
     let failed = put_plain(sink, failed, &schema.prefix);
@@ -150,7 +161,9 @@ fn put_typed_bare<S: Sink>(
     of_type: &FeatureType,
     feature: &Feature,
 ) -> bool
-    ensures { Writes (record { shown = S.sink sink.old; failed = failed }) (bare_text schema.now of_type.now feature.now) (record { shown = S.sink sink.new; failed = result }) }
+    ensures { Writes (record { shown = S.sink sink.old; failed = failed })
+        (bare_text schema.now of_type.now feature.now)
+        (record { shown = S.sink sink.new; failed = result }) }
 {
     let failed = put_on(sink, failed, b"<?xml version=\"1.0\" encoding=\"UTF-8\"?><");
     let failed = put_plain(sink, failed, &schema.prefix);
@@ -178,7 +191,8 @@ pub(crate) fn put_bare<S: Sink>(
     schema: &Schema,
     feature: &Feature,
 ) -> bool
-    ensures { Writes (record { shown = S.sink sink.old; failed = failed }) (bare_body schema.now feature.now) (record { shown = S.sink sink.new; failed = result }) }
+    ensures { Writes (record { shown = S.sink sink.old; failed = failed })
+        (bare_body schema.now feature.now) (record { shown = S.sink sink.new; failed = result }) }
 {
     match find_type(schema, feature.id.kind) {
         None => put_on(sink, failed, b""),

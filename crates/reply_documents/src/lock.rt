@@ -17,7 +17,8 @@ const START: &[u8] =
 
 // Gives the identifier of a lock as an attribute.
 fn put_some_lock<S: Sink>(sink: &mut S, failed: bool, lock: &LockId) -> bool
-    ensures { Writes (record { shown = S.sink sink.old; failed = failed }) (some_lock_text lock.now) (record { shown = S.sink sink.new; failed = result }) }
+    ensures { Writes (record { shown = S.sink sink.old; failed = failed }) (some_lock_text lock.now)
+        (record { shown = S.sink sink.new; failed = result }) }
 {
     let failed = put_on(sink, failed, b" lockId=\"lock-");
     let failed = put_number(sink, failed, lock.opening);
@@ -28,7 +29,8 @@ fn put_some_lock<S: Sink>(sink: &mut S, failed: bool, lock: &LockId) -> bool
 
 // Gives the identifier of a lock as an attribute, where there is a lock.
 pub(crate) fn put_lock<S: Sink>(sink: &mut S, failed: bool, lock: &Option<LockId>) -> bool
-    ensures { Writes (record { shown = S.sink sink.old; failed = failed }) (lock_text lock.now) (record { shown = S.sink sink.new; failed = result }) }
+    ensures { Writes (record { shown = S.sink sink.old; failed = failed }) (lock_text lock.now)
+        (record { shown = S.sink sink.new; failed = result }) }
 {
     match lock {
         None => put_on(sink, failed, b""),
@@ -38,7 +40,8 @@ pub(crate) fn put_lock<S: Sink>(sink: &mut S, failed: bool, lock: &Option<LockId
 
 // Gives a feature of this type by its id.
 fn put_resource<S: Sink>(sink: &mut S, failed: bool, of_type: &FeatureType, number: u64) -> bool
-    ensures { Writes (record { shown = S.sink sink.old; failed = failed }) (resource_text of_type.now number) (record { shown = S.sink sink.new; failed = result }) }
+    ensures { Writes (record { shown = S.sink sink.old; failed = failed })
+        (resource_text of_type.now number) (record { shown = S.sink sink.new; failed = result }) }
 {
     let failed = put_on(sink, failed, b"<fes:ResourceId rid=\"");
     let failed = put_rid(sink, failed, of_type, number);
@@ -48,7 +51,8 @@ fn put_resource<S: Sink>(sink: &mut S, failed: bool, of_type: &FeatureType, numb
 // Gives a feature by its id, where its type is in the schema.
 #[tactic(auto, unfolding(crate::specs::Locks::id_text))]
 fn put_id<S: Sink>(sink: &mut S, failed: bool, schema: &Schema, id: &Rid) -> bool
-    ensures { Writes (record { shown = S.sink sink.old; failed = failed }) (id_text schema.now id.now) (record { shown = S.sink sink.new; failed = result }) }
+    ensures { Writes (record { shown = S.sink sink.old; failed = failed })
+        (id_text schema.now id.now) (record { shown = S.sink sink.new; failed = result }) }
 {
     match find_type(schema, id.kind) {
         None => put_on(sink, failed, b""),
@@ -57,7 +61,9 @@ fn put_id<S: Sink>(sink: &mut S, failed: bool, schema: &Schema, id: &Rid) -> boo
 }
 
 fn put_each_id<S: Sink>(sink: &mut S, failed: bool, schema: &Schema, ids: &List<Rid>) -> bool
-    ensures { Writes (record { shown = S.sink sink.old; failed = failed }) (flat_map (id_text schema.now) ids.now) (record { shown = S.sink sink.new; failed = result }) }
+    ensures { Writes (record { shown = S.sink sink.old; failed = failed })
+        (flat_map (id_text schema.now) ids.now)
+        (record { shown = S.sink sink.new; failed = result }) }
 {
     let mut failed = put_on(sink, failed, b"");
     for id in ids.items() {
@@ -74,7 +80,9 @@ fn put_some_ids<S: Sink>(
     ids: &List<Rid>,
     end: &[u8],
 ) -> bool
-    ensures { Writes (record { shown = S.sink sink.old; failed = failed }) (some_ids_text schema.now start.now ids.now end.now) (record { shown = S.sink sink.new; failed = result }) }
+    ensures { Writes (record { shown = S.sink sink.old; failed = failed })
+        (some_ids_text schema.now start.now ids.now end.now)
+        (record { shown = S.sink sink.new; failed = result }) }
 {
     let failed = put_on(sink, failed, start);
     let failed = put_each_id(sink, failed, schema, ids);
@@ -91,7 +99,9 @@ fn put_ids<S: Sink>(
     ids: &List<Rid>,
     end: &[u8],
 ) -> bool
-    ensures { Writes (record { shown = S.sink sink.old; failed = failed }) (ids_text schema.now start.now ids.now end.now) (record { shown = S.sink sink.new; failed = result }) }
+    ensures { Writes (record { shown = S.sink sink.old; failed = failed })
+        (ids_text schema.now start.now ids.now end.now)
+        (record { shown = S.sink sink.new; failed = result }) }
 {
     if ids.items().is_empty() {
         put_on(sink, failed, b"")
@@ -107,7 +117,9 @@ fn put_some_features<S: Sink>(
     taken: &List<Rid>,
     missed: &List<Rid>,
 ) -> bool
-    ensures { Writes (record { shown = S.sink sink.old; failed = failed }) (some_features_text schema.now taken.now missed.now) (record { shown = S.sink sink.new; failed = result }) }
+    ensures { Writes (record { shown = S.sink sink.old; failed = failed })
+        (some_features_text schema.now taken.now missed.now)
+        (record { shown = S.sink sink.new; failed = result }) }
 {
     let failed = put_on(sink, failed, b">");
     let failed = put_ids(
@@ -138,7 +150,9 @@ fn put_features<S: Sink>(
     taken: &List<Rid>,
     missed: &List<Rid>,
 ) -> bool
-    ensures { Writes (record { shown = S.sink sink.old; failed = failed }) (features_text schema.now taken.now missed.now) (record { shown = S.sink sink.new; failed = result }) }
+    ensures { Writes (record { shown = S.sink sink.old; failed = failed })
+        (features_text schema.now taken.now missed.now)
+        (record { shown = S.sink sink.new; failed = result }) }
 {
     if taken.items().is_empty() && missed.items().is_empty() {
         put_on(sink, failed, b"/>")
@@ -156,7 +170,9 @@ pub(crate) fn put_locked<S: Sink>(
     taken: &List<Rid>,
     missed: &List<Rid>,
 ) -> bool
-    ensures { Writes (record { shown = S.sink sink.old; failed = failed }) (locked_body schema.now lock.now taken.now missed.now) (record { shown = S.sink sink.new; failed = result }) }
+    ensures { Writes (record { shown = S.sink sink.old; failed = failed })
+        (locked_body schema.now lock.now taken.now missed.now)
+        (record { shown = S.sink sink.new; failed = result }) }
 {
     let failed = put_on(sink, failed, START);
     let failed = put_lock(sink, failed, lock);

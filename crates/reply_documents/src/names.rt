@@ -8,7 +8,8 @@ use doc_tree::put_plain;
 use wfs_ends::{Sink, Text, put_on};
 
 pub(crate) fn put_start_tag<S: Sink>(sink: &mut S, failed: bool, prefix: &Text, name: &Text) -> bool
-    ensures { Writes (record { shown = S.sink sink.old; failed = failed }) (start_tag prefix.now name.now) (record { shown = S.sink sink.new; failed = result }) }
+    ensures { Writes (record { shown = S.sink sink.old; failed = failed })
+        (start_tag prefix.now name.now) (record { shown = S.sink sink.new; failed = result }) }
 {
     let failed = put_on(sink, failed, b"<");
     let failed = put_plain(sink, failed, prefix);
@@ -18,7 +19,8 @@ pub(crate) fn put_start_tag<S: Sink>(sink: &mut S, failed: bool, prefix: &Text, 
 }
 
 pub(crate) fn put_end_tag<S: Sink>(sink: &mut S, failed: bool, prefix: &Text, name: &Text) -> bool
-    ensures { Writes (record { shown = S.sink sink.old; failed = failed }) (end_tag prefix.now name.now) (record { shown = S.sink sink.new; failed = result }) }
+    ensures { Writes (record { shown = S.sink sink.old; failed = failed })
+        (end_tag prefix.now name.now) (record { shown = S.sink sink.new; failed = result }) }
 {
     let failed = put_on(sink, failed, b"</");
     let failed = put_plain(sink, failed, prefix);
@@ -28,7 +30,8 @@ pub(crate) fn put_end_tag<S: Sink>(sink: &mut S, failed: bool, prefix: &Text, na
 }
 
 pub(crate) fn put_empty_tag<S: Sink>(sink: &mut S, failed: bool, prefix: &Text, name: &Text) -> bool
-    ensures { Writes (record { shown = S.sink sink.old; failed = failed }) (empty_tag prefix.now name.now) (record { shown = S.sink sink.new; failed = result }) }
+    ensures { Writes (record { shown = S.sink sink.old; failed = failed })
+        (empty_tag prefix.now name.now) (record { shown = S.sink sink.new; failed = result }) }
 {
     let failed = put_on(sink, failed, b"<");
     let failed = put_plain(sink, failed, prefix);

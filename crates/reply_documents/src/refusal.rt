@@ -23,7 +23,9 @@ const END: &[u8] = b"</ows:ExceptionText></ows:Exception></ows:ExceptionReport>"
 
 // Gives the exception report of a row, which points at this.
 fn put_report<S: Sink>(sink: &mut S, failed: bool, row: &Row, locator: &str) -> bool
-    ensures { Writes (record { shown = S.sink sink.old; failed = failed }) (report_text (row_shown row.now) locator.now) (record { shown = S.sink sink.new; failed = result }) }
+    ensures { Writes (record { shown = S.sink sink.old; failed = failed })
+        (report_text (row_shown row.now) locator.now)
+        (record { shown = S.sink sink.new; failed = result }) }
 {
     let failed = put_on(sink, failed, START);
     let failed = put_str(sink, failed, row.code);
@@ -54,7 +56,9 @@ pub(crate) fn refusal_status(refusal: &Refusal) -> StatusCode
 // Gives the body of a refusal.
 #[tactic(auto, unfolding(crate::specs::Refusals::refusal_body))]
 pub(crate) fn put_refusal<S: Sink>(sink: &mut S, failed: bool, refusal: &Refusal) -> bool
-    ensures { Writes (record { shown = S.sink sink.old; failed = failed }) (refusal_body refusal.now.row refusal.now.locator) (record { shown = S.sink sink.new; failed = result }) }
+    ensures { Writes (record { shown = S.sink sink.old; failed = failed })
+        (refusal_body refusal.now.row refusal.now.locator)
+        (record { shown = S.sink sink.new; failed = result }) }
 {
     let row = row_of(refusal.row);
     put_report(sink, failed, &row, refusal.locator.as_str())

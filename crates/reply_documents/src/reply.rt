@@ -61,7 +61,8 @@ fn media_of(reply: &Reply) -> &'static str
 
 // Gives the body of a reply.
 fn put_body<S: Sink>(sink: &mut S, failed: bool, reply: &Reply, schema: &Schema) -> bool
-    ensures { Writes (record { shown = S.sink sink.old; failed = failed }) (reply_body reply.now schema.now) (record { shown = S.sink sink.new; failed = result }) }
+    ensures { Writes (record { shown = S.sink sink.old; failed = failed })
+        (reply_body reply.now schema.now) (record { shown = S.sink sink.new; failed = result }) }
 {
     match reply {
         Reply::Capabilities => put_capabilities_on(sink, failed, schema),
@@ -122,7 +123,8 @@ pub fn put_reply<S: Sink>(
     close: bool,
     sink: &mut S,
 ) -> Result<(), WriteFault>
-    ensures { Gives result (S.sink sink.old) (reply_text reply.now schema.now close) (S.sink sink.new) }
+    ensures { Gives result (S.sink sink.old) (reply_text reply.now schema.now close)
+        (S.sink sink.new) }
 {
     let size = reply_length(reply, schema);
     let failed = put_head(sink, status_of(reply), media_of(reply), size, close);

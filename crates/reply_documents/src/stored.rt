@@ -30,7 +30,8 @@ const RETURNED: &[u8] = b"<wfs:ReturnFeatureType>";
 
 // Gives the start of a root, with the namespace of the service's types.
 fn put_declared<S: Sink>(sink: &mut S, failed: bool, start: &[u8], schema: &Schema) -> bool
-    ensures { Writes (record { shown = S.sink sink.old; failed = failed }) (declared_text start.now schema.now) (record { shown = S.sink sink.new; failed = result }) }
+    ensures { Writes (record { shown = S.sink sink.old; failed = failed })
+        (declared_text start.now schema.now) (record { shown = S.sink sink.new; failed = result }) }
 {
     let failed = put_on(sink, failed, start);
     let failed = put_plain(sink, failed, &schema.prefix);
@@ -40,7 +41,8 @@ fn put_declared<S: Sink>(sink: &mut S, failed: bool, start: &[u8], schema: &Sche
 }
 
 fn put_some_title<S: Sink>(sink: &mut S, failed: bool, title: &Text) -> bool
-    ensures { Writes (record { shown = S.sink sink.old; failed = failed }) (some_title_text title.now) (record { shown = S.sink sink.new; failed = result }) }
+    ensures { Writes (record { shown = S.sink sink.old; failed = failed })
+        (some_title_text title.now) (record { shown = S.sink sink.new; failed = result }) }
 {
     let failed = put_on(sink, failed, b"<wfs:Title>");
     let failed = put_escaped(sink, failed, title, false);
@@ -50,7 +52,8 @@ fn put_some_title<S: Sink>(sink: &mut S, failed: bool, title: &Text) -> bool
 // Gives the title, where it is not empty.
 #[tactic(auto, unfolding(crate::specs::StoredQueries::title_text))]
 fn put_title<S: Sink>(sink: &mut S, failed: bool, title: &Text) -> bool
-    ensures { Writes (record { shown = S.sink sink.old; failed = failed }) (title_text title.now) (record { shown = S.sink sink.new; failed = result }) }
+    ensures { Writes (record { shown = S.sink sink.old; failed = failed }) (title_text title.now)
+        (record { shown = S.sink sink.new; failed = result }) }
 {
     if title.as_str().is_empty() {
         put_on(sink, failed, b"")
@@ -67,7 +70,9 @@ fn put_some_named<S: Sink>(
     schema: &Schema,
     stored: &StoredQuery,
 ) -> bool
-    ensures { Writes (record { shown = S.sink sink.old; failed = failed }) (some_named_text schema.now stored.now) (record { shown = S.sink sink.new; failed = result }) }
+    ensures { Writes (record { shown = S.sink sink.old; failed = failed })
+        (some_named_text schema.now stored.now)
+        (record { shown = S.sink sink.new; failed = result }) }
 {
     let failed = put_on(sink, failed, b">");
     let failed = put_title(sink, failed, &stored.title);
@@ -99,7 +104,9 @@ fn put_inside_named<S: Sink>(
     schema: &Schema,
     stored: &StoredQuery,
 ) -> bool
-    ensures { Writes (record { shown = S.sink sink.old; failed = failed }) (inside_named_text schema.now stored.now) (record { shown = S.sink sink.new; failed = result }) }
+    ensures { Writes (record { shown = S.sink sink.old; failed = failed })
+        (inside_named_text schema.now stored.now)
+        (record { shown = S.sink sink.new; failed = result }) }
 {
     if is_plain(stored) {
         put_on(sink, failed, b"/>")
@@ -109,7 +116,8 @@ fn put_inside_named<S: Sink>(
 }
 
 fn put_named<S: Sink>(sink: &mut S, failed: bool, schema: &Schema, stored: &StoredQuery) -> bool
-    ensures { Writes (record { shown = S.sink sink.old; failed = failed }) (named_text schema.now stored.now) (record { shown = S.sink sink.new; failed = result }) }
+    ensures { Writes (record { shown = S.sink sink.old; failed = failed })
+        (named_text schema.now stored.now) (record { shown = S.sink sink.new; failed = result }) }
 {
     let failed = put_on(sink, failed, b"<wfs:StoredQuery id=\"");
     let failed = put_escaped(sink, failed, &stored.id, true);
@@ -123,7 +131,9 @@ fn put_each_named<S: Sink>(
     schema: &Schema,
     all: &List<StoredQuery>,
 ) -> bool
-    ensures { Writes (record { shown = S.sink sink.old; failed = failed }) (flat_map (named_text schema.now) all.now) (record { shown = S.sink sink.new; failed = result }) }
+    ensures { Writes (record { shown = S.sink sink.old; failed = failed })
+        (flat_map (named_text schema.now) all.now)
+        (record { shown = S.sink sink.new; failed = result }) }
 {
     let mut failed = put_on(sink, failed, b"");
     for stored in all.items() {
@@ -138,7 +148,8 @@ fn put_some_named_list<S: Sink>(
     schema: &Schema,
     all: &List<StoredQuery>,
 ) -> bool
-    ensures { Writes (record { shown = S.sink sink.old; failed = failed }) (some_named_list schema.now all.now) (record { shown = S.sink sink.new; failed = result }) }
+    ensures { Writes (record { shown = S.sink sink.old; failed = failed })
+        (some_named_list schema.now all.now) (record { shown = S.sink sink.new; failed = result }) }
 {
     let failed = put_on(sink, failed, b">");
     let failed = put_each_named(sink, failed, schema, all);
@@ -152,7 +163,8 @@ fn put_named_list<S: Sink>(
     schema: &Schema,
     all: &List<StoredQuery>,
 ) -> bool
-    ensures { Writes (record { shown = S.sink sink.old; failed = failed }) (named_list schema.now all.now) (record { shown = S.sink sink.new; failed = result }) }
+    ensures { Writes (record { shown = S.sink sink.old; failed = failed })
+        (named_list schema.now all.now) (record { shown = S.sink sink.new; failed = result }) }
 {
     if all.items().is_empty() {
         put_on(sink, failed, b"/>")
@@ -168,7 +180,9 @@ pub(crate) fn put_stored_list<S: Sink>(
     schema: &Schema,
     all: &List<StoredQuery>,
 ) -> bool
-    ensures { Writes (record { shown = S.sink sink.old; failed = failed }) (stored_list_body schema.now all.now) (record { shown = S.sink sink.new; failed = result }) }
+    ensures { Writes (record { shown = S.sink sink.old; failed = failed })
+        (stored_list_body schema.now all.now)
+        (record { shown = S.sink sink.new; failed = result }) }
 {
     let failed = put_declared(sink, failed, LIST_START, schema);
     put_named_list(sink, failed, schema, all)
@@ -177,7 +191,8 @@ pub(crate) fn put_stored_list<S: Sink>(
 // ---- stored queries whole
 
 fn put_parameter<S: Sink>(sink: &mut S, failed: bool, name: &Text) -> bool
-    ensures { Writes (record { shown = S.sink sink.old; failed = failed }) (parameter_text name.now) (record { shown = S.sink sink.new; failed = result }) }
+    ensures { Writes (record { shown = S.sink sink.old; failed = failed }) (parameter_text name.now)
+        (record { shown = S.sink sink.new; failed = result }) }
 {
     let failed = put_on(sink, failed, b"<wfs:Parameter name=\"");
     let failed = put_escaped(sink, failed, name, true);
@@ -185,7 +200,8 @@ fn put_parameter<S: Sink>(sink: &mut S, failed: bool, name: &Text) -> bool
 }
 
 fn put_parameters<S: Sink>(sink: &mut S, failed: bool, names: &List<Text>) -> bool
-    ensures { Writes (record { shown = S.sink sink.old; failed = failed }) (flat_map parameter_text names.now) (record { shown = S.sink sink.new; failed = result }) }
+    ensures { Writes (record { shown = S.sink sink.old; failed = failed })
+        (flat_map parameter_text names.now) (record { shown = S.sink sink.new; failed = result }) }
 {
     let mut failed = put_on(sink, failed, b"");
     for name in names.items() {
@@ -195,7 +211,8 @@ fn put_parameters<S: Sink>(sink: &mut S, failed: bool, names: &List<Text>) -> bo
 }
 
 fn put_some_expression<S: Sink>(sink: &mut S, failed: bool, text: &Text) -> bool
-    ensures { Writes (record { shown = S.sink sink.old; failed = failed }) (some_expression_text text.now) (record { shown = S.sink sink.new; failed = result }) }
+    ensures { Writes (record { shown = S.sink sink.old; failed = failed })
+        (some_expression_text text.now) (record { shown = S.sink sink.new; failed = result }) }
 {
     let failed = put_on(sink, failed, b">");
     let failed = put_plain(sink, failed, text);
@@ -205,7 +222,8 @@ fn put_some_expression<S: Sink>(sink: &mut S, failed: bool, text: &Text) -> bool
 // Gives the text of a stored query as it stands.
 #[tactic(auto, unfolding(crate::specs::StoredQueries::expression_text))]
 fn put_expression<S: Sink>(sink: &mut S, failed: bool, text: &Text) -> bool
-    ensures { Writes (record { shown = S.sink sink.old; failed = failed }) (expression_text text.now) (record { shown = S.sink sink.new; failed = result }) }
+    ensures { Writes (record { shown = S.sink sink.old; failed = failed })
+        (expression_text text.now) (record { shown = S.sink sink.new; failed = result }) }
 {
     if text.as_str().is_empty() {
         put_on(sink, failed, b"/>")
@@ -216,13 +234,15 @@ fn put_expression<S: Sink>(sink: &mut S, failed: bool, text: &Text) -> bool
 
 // Says whether a stored query is the built-in one.
 fn put_private<S: Sink>(sink: &mut S, failed: bool, id: &Text) -> bool
-    ensures { Writes (record { shown = S.sink sink.old; failed = failed }) (truth_text (is_id_query id.now)) (record { shown = S.sink sink.new; failed = result }) }
+    ensures { Writes (record { shown = S.sink sink.old; failed = failed })
+        (truth_text (is_id_query id.now)) (record { shown = S.sink sink.new; failed = result }) }
 {
     put_truth(sink, failed, is_id_query(id.as_str()))
 }
 
 fn put_whole<S: Sink>(sink: &mut S, failed: bool, schema: &Schema, stored: &StoredQuery) -> bool
-    ensures { Writes (record { shown = S.sink sink.old; failed = failed }) (whole_text schema.now stored.now) (record { shown = S.sink sink.new; failed = result }) }
+    ensures { Writes (record { shown = S.sink sink.old; failed = failed })
+        (whole_text schema.now stored.now) (record { shown = S.sink sink.new; failed = result }) }
 {
     let failed = put_on(sink, failed, b"<wfs:StoredQueryDescription id=\"");
     let failed = put_escaped(sink, failed, &stored.id, true);
@@ -248,7 +268,9 @@ fn put_each_whole<S: Sink>(
     schema: &Schema,
     all: &List<StoredQuery>,
 ) -> bool
-    ensures { Writes (record { shown = S.sink sink.old; failed = failed }) (flat_map (whole_text schema.now) all.now) (record { shown = S.sink sink.new; failed = result }) }
+    ensures { Writes (record { shown = S.sink sink.old; failed = failed })
+        (flat_map (whole_text schema.now) all.now)
+        (record { shown = S.sink sink.new; failed = result }) }
 {
     let mut failed = put_on(sink, failed, b"");
     for stored in all.items() {
@@ -263,7 +285,8 @@ fn put_some_whole_list<S: Sink>(
     schema: &Schema,
     all: &List<StoredQuery>,
 ) -> bool
-    ensures { Writes (record { shown = S.sink sink.old; failed = failed }) (some_whole_list schema.now all.now) (record { shown = S.sink sink.new; failed = result }) }
+    ensures { Writes (record { shown = S.sink sink.old; failed = failed })
+        (some_whole_list schema.now all.now) (record { shown = S.sink sink.new; failed = result }) }
 {
     let failed = put_on(sink, failed, b">");
     let failed = put_each_whole(sink, failed, schema, all);
@@ -277,7 +300,8 @@ fn put_whole_list<S: Sink>(
     schema: &Schema,
     all: &List<StoredQuery>,
 ) -> bool
-    ensures { Writes (record { shown = S.sink sink.old; failed = failed }) (whole_list schema.now all.now) (record { shown = S.sink sink.new; failed = result }) }
+    ensures { Writes (record { shown = S.sink sink.old; failed = failed })
+        (whole_list schema.now all.now) (record { shown = S.sink sink.new; failed = result }) }
 {
     if all.items().is_empty() {
         put_on(sink, failed, b"/>")
@@ -293,7 +317,9 @@ pub(crate) fn put_stored_texts<S: Sink>(
     schema: &Schema,
     all: &List<StoredQuery>,
 ) -> bool
-    ensures { Writes (record { shown = S.sink sink.old; failed = failed }) (stored_texts_body schema.now all.now) (record { shown = S.sink sink.new; failed = result }) }
+    ensures { Writes (record { shown = S.sink sink.old; failed = failed })
+        (stored_texts_body schema.now all.now)
+        (record { shown = S.sink sink.new; failed = result }) }
 {
     let failed = put_declared(sink, failed, TEXTS_START, schema);
     let failed = put_on(

@@ -66,7 +66,9 @@ fn put_type<S: Sink>(
     end: &[u8],
     of_type: &FeatureType,
 ) -> bool
-    ensures { Writes (record { shown = S.sink sink.old; failed = failed }) (type_between start.now schema.now end.now of_type.now) (record { shown = S.sink sink.new; failed = result }) }
+    ensures { Writes (record { shown = S.sink sink.old; failed = failed })
+        (type_between start.now schema.now end.now of_type.now)
+        (record { shown = S.sink sink.new; failed = result }) }
 {
     let failed = put_on(sink, failed, start);
     let failed = put_plain(sink, failed, &schema.prefix);
@@ -86,7 +88,9 @@ fn put_asked<S: Sink>(
     end: &[u8],
     asked: Option<&FeatureType>,
 ) -> bool
-    ensures { Writes (record { shown = S.sink sink.old; failed = failed }) (asked_text (if is_first then first.now else later.now) schema.now end.now (option_copied asked.entry)) (record { shown = S.sink sink.new; failed = result }) }
+    ensures { Writes (record { shown = S.sink sink.old; failed = failed })
+        (asked_text (if is_first then first.now else later.now) schema.now end.now
+        (option_copied asked.entry)) (record { shown = S.sink sink.new; failed = result }) }
 {
     match asked {
         None => put_on(sink, failed, b""),
@@ -117,7 +121,9 @@ fn put_asked_types<S: Sink>(
     end: &[u8],
     queries: &[Query],
 ) -> bool
-    ensures { Writes (record { shown = S.sink sink.old; failed = failed }) (types_between first.now later.now schema.now end.now (types_asked schema.now queries.now)) (record { shown = S.sink sink.new; failed = result }) }
+    ensures { Writes (record { shown = S.sink sink.old; failed = failed })
+        (types_between first.now later.now schema.now end.now (types_asked schema.now queries.now))
+        (record { shown = S.sink sink.new; failed = result }) }
 {
     let mut failed = put_on(sink, failed, b"");
     let mut is_first = true;
@@ -137,7 +143,9 @@ fn put_other_types<S: Sink>(
     end: &[u8],
     types: &[FeatureType],
 ) -> bool
-    ensures { Writes (record { shown = S.sink sink.old; failed = failed }) (flat_map (type_between later.now schema.now end.now) types.now) (record { shown = S.sink sink.new; failed = result }) }
+    ensures { Writes (record { shown = S.sink sink.old; failed = failed })
+        (flat_map (type_between later.now schema.now end.now) types.now)
+        (record { shown = S.sink sink.new; failed = result }) }
 {
     let mut failed = put_on(sink, failed, b"");
     for of_type in types {
@@ -156,7 +164,10 @@ fn put_some_types<S: Sink>(
     of_type: &FeatureType,
     others: &[FeatureType],
 ) -> bool
-    ensures { Writes (record { shown = S.sink sink.old; failed = failed }) (type_between first.now schema.now end.now of_type.now ++ flat_map (type_between later.now schema.now end.now) others.now) (record { shown = S.sink sink.new; failed = result }) }
+    ensures { Writes (record { shown = S.sink sink.old; failed = failed })
+        (type_between first.now schema.now end.now of_type.now
+        ++ flat_map (type_between later.now schema.now end.now) others.now)
+        (record { shown = S.sink sink.new; failed = result }) }
 {
     let failed = put_type(sink, failed, first, schema, end, of_type);
     put_other_types(sink, failed, later, schema, end, others)
@@ -171,7 +182,9 @@ fn put_first_types<S: Sink>(
     end: &[u8],
     types: &[FeatureType],
 ) -> bool
-    ensures { Writes (record { shown = S.sink sink.old; failed = failed }) (types_between first.now later.now schema.now end.now types.now) (record { shown = S.sink sink.new; failed = result }) }
+    ensures { Writes (record { shown = S.sink sink.old; failed = failed })
+        (types_between first.now later.now schema.now end.now types.now)
+        (record { shown = S.sink sink.new; failed = result }) }
 {
     match types {
         [] => put_on(sink, failed, b""),
@@ -193,7 +206,9 @@ pub(crate) fn put_return_types<S: Sink>(
     end: &[u8],
     stored: &StoredQuery,
 ) -> bool
-    ensures { Writes (record { shown = S.sink sink.old; failed = failed }) (return_types_text first.now later.now schema.now end.now stored.now) (record { shown = S.sink sink.new; failed = result }) }
+    ensures { Writes (record { shown = S.sink sink.old; failed = failed })
+        (return_types_text first.now later.now schema.now end.now stored.now)
+        (record { shown = S.sink sink.new; failed = result }) }
 {
     if is_id_query(stored.id.as_str()) {
         put_first_types(

@@ -30,7 +30,9 @@ pub(crate) fn put_transacted<S: Sink>(
     updated: &List<Made>,
     replaced: &List<Made>,
 ) -> bool
-    ensures { Writes (record { shown = S.sink sink.old; failed = failed }) (transacted_body schema.now deleted inserted.now updated.now replaced.now) (record { shown = S.sink sink.new; failed = result }) }
+    ensures { Writes (record { shown = S.sink sink.old; failed = failed })
+        (transacted_body schema.now deleted inserted.now updated.now replaced.now)
+        (record { shown = S.sink sink.new; failed = result }) }
 {
     let failed = put_on(sink, failed, START);
     let failed = put_totals(sink, failed, inserted, updated, replaced, deleted);
@@ -48,7 +50,9 @@ fn put_totals<S: Sink>(
     replaced: &List<Made>,
     deleted: u64,
 ) -> bool
-    ensures { Writes (record { shown = S.sink sink.old; failed = failed }) (totals_text (length inserted.now) (length updated.now) (length replaced.now) deleted) (record { shown = S.sink sink.new; failed = result }) }
+    ensures { Writes (record { shown = S.sink sink.old; failed = failed })
+        (totals_text (length inserted.now) (length updated.now) (length replaced.now) deleted)
+        (record { shown = S.sink sink.new; failed = result }) }
 {
     let failed = put_total(
         sink,
@@ -89,7 +93,8 @@ fn count(made: &List<Made>) -> u64
 
 // Gives one total.
 fn put_total<S: Sink>(sink: &mut S, failed: bool, start: &[u8], total: u64, end: &[u8]) -> bool
-    ensures { Writes (record { shown = S.sink sink.old; failed = failed }) (total_text start.now total end.now) (record { shown = S.sink sink.new; failed = result }) }
+    ensures { Writes (record { shown = S.sink sink.old; failed = failed })
+        (total_text start.now total end.now) (record { shown = S.sink sink.new; failed = result }) }
 {
     let failed = put_on(sink, failed, start);
     let failed = put_number(sink, failed, total);
@@ -105,7 +110,9 @@ fn put_all_results<S: Sink>(
     updated: &List<Made>,
     replaced: &List<Made>,
 ) -> bool
-    ensures { Writes (record { shown = S.sink sink.old; failed = failed }) (all_results_text schema.now inserted.now updated.now replaced.now) (record { shown = S.sink sink.new; failed = result }) }
+    ensures { Writes (record { shown = S.sink sink.old; failed = failed })
+        (all_results_text schema.now inserted.now updated.now replaced.now)
+        (record { shown = S.sink sink.new; failed = result }) }
 {
     let failed = put_results(
         sink,
@@ -143,7 +150,9 @@ fn put_results<S: Sink>(
     made: &List<Made>,
     end: &[u8],
 ) -> bool
-    ensures { Writes (record { shown = S.sink sink.old; failed = failed }) (results_text schema.now start.now made.now end.now) (record { shown = S.sink sink.new; failed = result }) }
+    ensures { Writes (record { shown = S.sink sink.old; failed = failed })
+        (results_text schema.now start.now made.now end.now)
+        (record { shown = S.sink sink.new; failed = result }) }
 {
     if made.items().is_empty() {
         put_on(sink, failed, b"")
@@ -161,7 +170,9 @@ fn put_some_results<S: Sink>(
     made: &List<Made>,
     end: &[u8],
 ) -> bool
-    ensures { Writes (record { shown = S.sink sink.old; failed = failed }) (some_results_text schema.now start.now made.now end.now) (record { shown = S.sink sink.new; failed = result }) }
+    ensures { Writes (record { shown = S.sink sink.old; failed = failed })
+        (some_results_text schema.now start.now made.now end.now)
+        (record { shown = S.sink sink.new; failed = result }) }
 {
     let failed = put_on(sink, failed, start);
     let failed = put_made_list(sink, failed, schema, made);
@@ -170,7 +181,9 @@ fn put_some_results<S: Sink>(
 
 // Gives the features one after the other.
 fn put_made_list<S: Sink>(sink: &mut S, failed: bool, schema: &Schema, made: &List<Made>) -> bool
-    ensures { Writes (record { shown = S.sink sink.old; failed = failed }) (flat_map (made_text schema.now) made.now) (record { shown = S.sink sink.new; failed = result }) }
+    ensures { Writes (record { shown = S.sink sink.old; failed = failed })
+        (flat_map (made_text schema.now) made.now)
+        (record { shown = S.sink sink.new; failed = result }) }
 {
     let mut failed = put_on(sink, failed, b"");
     for feature in made.items() {
@@ -182,7 +195,8 @@ fn put_made_list<S: Sink>(sink: &mut S, failed: bool, schema: &Schema, made: &Li
 // Gives a feature by its resource id, where its type is in the schema.
 #[tactic(auto, unfolding(crate::specs::Transacted::made_text))]
 fn put_made<S: Sink>(sink: &mut S, failed: bool, schema: &Schema, made: &Made) -> bool
-    ensures { Writes (record { shown = S.sink sink.old; failed = failed }) (made_text schema.now made.now) (record { shown = S.sink sink.new; failed = result }) }
+    ensures { Writes (record { shown = S.sink sink.old; failed = failed })
+        (made_text schema.now made.now) (record { shown = S.sink sink.new; failed = result }) }
 {
     match find_type(schema, made.id.kind) {
         None => put_on(sink, failed, b""),
@@ -192,7 +206,9 @@ fn put_made<S: Sink>(sink: &mut S, failed: bool, schema: &Schema, made: &Made) -
 
 // Gives a feature of this type by its resource id.
 fn put_typed_made<S: Sink>(sink: &mut S, failed: bool, of_type: &FeatureType, made: &Made) -> bool
-    ensures { Writes (record { shown = S.sink sink.old; failed = failed }) (typed_made_text of_type.now made.now) (record { shown = S.sink sink.new; failed = result }) }
+    ensures { Writes (record { shown = S.sink sink.old; failed = failed })
+        (typed_made_text of_type.now made.now)
+        (record { shown = S.sink sink.new; failed = result }) }
 {
     let failed = put_on(sink, failed, b"<wfs:Feature");
     let failed = put_handle(sink, failed, &made.handle);
@@ -203,7 +219,8 @@ fn put_typed_made<S: Sink>(sink: &mut S, failed: bool, of_type: &FeatureType, ma
 
 // Gives the handle of an action, where there is one.
 fn put_handle<S: Sink>(sink: &mut S, failed: bool, handle: &Option<Text>) -> bool
-    ensures { Writes (record { shown = S.sink sink.old; failed = failed }) (handle_text handle.now) (record { shown = S.sink sink.new; failed = result }) }
+    ensures { Writes (record { shown = S.sink sink.old; failed = failed }) (handle_text handle.now)
+        (record { shown = S.sink sink.new; failed = result }) }
 {
     match handle {
         None => put_on(sink, failed, b""),
@@ -213,7 +230,8 @@ fn put_handle<S: Sink>(sink: &mut S, failed: bool, handle: &Option<Text>) -> boo
 
 // Gives the handle of an action.
 fn put_some_handle<S: Sink>(sink: &mut S, failed: bool, handle: &Text) -> bool
-    ensures { Writes (record { shown = S.sink sink.old; failed = failed }) (some_handle_text handle.now) (record { shown = S.sink sink.new; failed = result }) }
+    ensures { Writes (record { shown = S.sink sink.old; failed = failed })
+        (some_handle_text handle.now) (record { shown = S.sink sink.new; failed = result }) }
 {
     let failed = put_on(sink, failed, b" handle=\"");
     let failed = put_escaped(sink, failed, handle, true);

@@ -46,20 +46,23 @@ fn is_blank(value: &Value) -> bool
 }
 
 fn put_words<S: Sink>(sink: &mut S, failed: bool, text: &Text) -> bool
-    ensures { Writes (record { shown = S.sink sink.old; failed = failed }) (escaped Bool.false text.now) (record { shown = S.sink sink.new; failed = result }) }
+    ensures { Writes (record { shown = S.sink sink.old; failed = failed })
+        (escaped Bool.false text.now) (record { shown = S.sink sink.new; failed = result }) }
 {
     put_escaped(sink, failed, text, false)
 }
 
 fn put_whole<S: Sink>(sink: &mut S, failed: bool, whole: i64) -> bool
-    ensures { Writes (record { shown = S.sink sink.old; failed = failed }) (signed_decimal whole) (record { shown = S.sink sink.new; failed = result }) }
+    ensures { Writes (record { shown = S.sink sink.old; failed = failed }) (signed_decimal whole)
+        (record { shown = S.sink sink.new; failed = result }) }
 {
     let mut buffer = Buffer::new();
     put_on(sink, failed, buffer.format(whole).as_bytes())
 }
 
 pub(crate) fn put_truth<S: Sink>(sink: &mut S, failed: bool, truth: bool) -> bool
-    ensures { Writes (record { shown = S.sink sink.old; failed = failed }) (truth_text truth) (record { shown = S.sink sink.new; failed = result }) }
+    ensures { Writes (record { shown = S.sink sink.old; failed = failed }) (truth_text truth)
+        (record { shown = S.sink sink.new; failed = result }) }
 {
     if truth {
         put_on(sink, failed, b"true")
@@ -77,7 +80,9 @@ fn put_shape<S: Sink>(
     property: &Property,
     shape: &Geometry,
 ) -> bool
-    ensures { Writes (record { shown = S.sink sink.old; failed = failed }) (geometry_text shape.now (id_text of_type.now.name number property.now.name) (first_name schema.now.srs)) (record { shown = S.sink sink.new; failed = result }) }
+    ensures { Writes (record { shown = S.sink sink.old; failed = failed })
+        (geometry_text shape.now (id_text of_type.now.name number property.now.name)
+        (first_name schema.now.srs)) (record { shown = S.sink sink.new; failed = result }) }
 {
     let id = GeometryId {
         kind: of_type.name.as_str(),
@@ -98,7 +103,9 @@ fn put_value<S: Sink>(
     property: &Property,
     value: &Value,
 ) -> bool
-    ensures { Writes (record { shown = S.sink sink.old; failed = failed }) (value_text schema.now of_type.now number property.now value.now) (record { shown = S.sink sink.new; failed = result }) }
+    ensures { Writes (record { shown = S.sink sink.old; failed = failed })
+        (value_text schema.now of_type.now number property.now value.now)
+        (record { shown = S.sink sink.new; failed = result }) }
 {
     match value {
         Value::Null => put_on(sink, failed, b""),
@@ -118,7 +125,9 @@ fn put_valued<S: Sink>(
     property: &Property,
     value: &Value,
 ) -> bool
-    ensures { Writes (record { shown = S.sink sink.old; failed = failed }) (valued_text schema.now of_type.now number property.now value.now) (record { shown = S.sink sink.new; failed = result }) }
+    ensures { Writes (record { shown = S.sink sink.old; failed = failed })
+        (valued_text schema.now of_type.now number property.now value.now)
+        (record { shown = S.sink sink.new; failed = result }) }
 {
     let failed = put_start_tag(sink, failed, &schema.prefix, &property.name);
     let failed = put_value(sink, failed, schema, of_type, number, property, value);
@@ -136,7 +145,9 @@ pub(crate) fn put_property<S: Sink>(
     property: &Property,
     value: &Value,
 ) -> bool
-    ensures { Writes (record { shown = S.sink sink.old; failed = failed }) (property_text schema.now of_type.now number (property.now, value.now)) (record { shown = S.sink sink.new; failed = result }) }
+    ensures { Writes (record { shown = S.sink sink.old; failed = failed })
+        (property_text schema.now of_type.now number (property.now, value.now))
+        (record { shown = S.sink sink.new; failed = result }) }
 {
     if is_null(value) {
         put_on(sink, failed, b"")

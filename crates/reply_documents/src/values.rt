@@ -21,7 +21,9 @@ fn put_valued_member<S: Sink>(
     property: &Property,
     value: &Value,
 ) -> bool
-    ensures { Writes (record { shown = S.sink sink.old; failed = failed }) (valued_member_text schema.now of_type.now number property.now value.now) (record { shown = S.sink sink.new; failed = result }) }
+    ensures { Writes (record { shown = S.sink sink.old; failed = failed })
+        (valued_member_text schema.now of_type.now number property.now value.now)
+        (record { shown = S.sink sink.new; failed = result }) }
 {
     let failed = put_on(sink, failed, b"<wfs:member>");
     let failed = put_property(sink, failed, schema, of_type, number, property, value);
@@ -38,7 +40,9 @@ fn put_typed_value<S: Sink>(
     property: u32,
     feature: &Feature,
 ) -> bool
-    ensures { Writes (record { shown = S.sink sink.old; failed = failed }) (typed_value_text schema.now of_type.now property feature.now) (record { shown = S.sink sink.new; failed = result }) }
+    ensures { Writes (record { shown = S.sink sink.old; failed = failed })
+        (typed_value_text schema.now of_type.now property feature.now)
+        (record { shown = S.sink sink.new; failed = result }) }
 {
     match of_type.properties.items().get(property as usize) {
         None => put_on(sink, failed, b""),
@@ -68,7 +72,9 @@ fn put_value_member<S: Sink>(
     property: u32,
     feature: &Feature,
 ) -> bool
-    ensures { Writes (record { shown = S.sink sink.old; failed = failed }) (value_member_text schema.now property feature.now) (record { shown = S.sink sink.new; failed = result }) }
+    ensures { Writes (record { shown = S.sink sink.old; failed = failed })
+        (value_member_text schema.now property feature.now)
+        (record { shown = S.sink sink.new; failed = result }) }
 {
     match find_type(schema, feature.id.kind) {
         None => put_on(sink, failed, b""),
@@ -83,7 +89,9 @@ fn put_each_value<S: Sink>(
     property: u32,
     features: &List<Feature>,
 ) -> bool
-    ensures { Writes (record { shown = S.sink sink.old; failed = failed }) (flat_map (value_member_text schema.now property) features.now) (record { shown = S.sink sink.new; failed = result }) }
+    ensures { Writes (record { shown = S.sink sink.old; failed = failed })
+        (flat_map (value_member_text schema.now property) features.now)
+        (record { shown = S.sink sink.new; failed = result }) }
 {
     let mut failed = put_on(sink, failed, b"");
     for feature in features.items() {
@@ -99,7 +107,9 @@ fn put_some_values<S: Sink>(
     property: u32,
     features: &List<Feature>,
 ) -> bool
-    ensures { Writes (record { shown = S.sink sink.old; failed = failed }) (some_values_text schema.now property features.now) (record { shown = S.sink sink.new; failed = result }) }
+    ensures { Writes (record { shown = S.sink sink.old; failed = failed })
+        (some_values_text schema.now property features.now)
+        (record { shown = S.sink sink.new; failed = result }) }
 {
     let failed = put_on(sink, failed, b">");
     let failed = put_each_value(sink, failed, schema, property, features);
@@ -115,7 +125,9 @@ fn put_values_inside<S: Sink>(
     property: u32,
     features: &List<Feature>,
 ) -> bool
-    ensures { Writes (record { shown = S.sink sink.old; failed = failed }) (values_text schema.now property features.now) (record { shown = S.sink sink.new; failed = result }) }
+    ensures { Writes (record { shown = S.sink sink.old; failed = failed })
+        (values_text schema.now property features.now)
+        (record { shown = S.sink sink.new; failed = result }) }
 {
     if features.items().is_empty() {
         put_on(sink, failed, b"/>")
@@ -136,7 +148,9 @@ pub(crate) fn put_values<S: Sink>(
     next: &Option<Text>,
     previous: &Option<Text>,
 ) -> bool
-    ensures { Writes (record { shown = S.sink sink.old; failed = failed }) (values_body schema.now moment matched property features.now next.now previous.now) (record { shown = S.sink sink.new; failed = result }) }
+    ensures { Writes (record { shown = S.sink sink.old; failed = failed })
+        (values_body schema.now moment matched property features.now next.now previous.now)
+        (record { shown = S.sink sink.new; failed = result }) }
 {
     let failed = put_declared(sink, failed, b"wfs:ValueCollection", schema);
     let failed = put_counted(sink, failed, moment, matched, count(features));

@@ -22,7 +22,12 @@ pub fn reserve_locks(
     requires { table.old.last ≤ moment }
     ensures fault { Reserves work.now limit (length (live moment table.old.locks)) result }
     ensures room { OnOk result (HasRoom work.now table.new) }
-    ensures same { table.new ≡ record table.old { spare = table.new.spare; kept = table.new.kept; listed = table.new.listed; mapped = table.new.mapped } }
+    ensures same { table.new ≡ record table.old {
+      spare = table.new.spare;
+      kept = table.new.kept;
+      listed = table.new.listed;
+      mapped = table.new.mapped;
+    } }
 {
     match work {
         LockWork::Grant { features, .. } => {

@@ -23,7 +23,8 @@ pub(crate) struct Divided {
 // The features that no lock holds, and those that one holds, both in order.
 fn free_of(alloc: Global, locks: &LockTable, moment: u64, ids: &[Rid]) -> Mem<Divided>
     requires { locks.now.last ≤ moment }
-    ensures taken { IfOk result (λ d. d.taken ≡ filter (λ id. not (is_held locks.now.locks moment id)) ids.now) }
+    ensures taken { IfOk result (λ d. d.taken ≡ filter
+        (λ id. not (is_held locks.now.locks moment id)) ids.now) }
     ensures missed { IfOk result (λ d. d.missed ≡ filter (is_held locks.now.locks moment) ids.now) }
 {
     let mut taken = Vec::new(alloc);
@@ -49,7 +50,8 @@ pub(crate) fn divide(
     take: Take,
     ids: List<Rid>,
 ) -> Result<Divided, PlanFault>
-    ensures { Divides result (divided basis.now.schema.now basis.now.locks.now.locks basis.now.moment take ids) }
+    ensures { Divides result (divided basis.now.schema.now basis.now.locks.now.locks
+        basis.now.moment take ids) }
 {
     match take {
         Take::AllOrNone => match basis.locks.first_held(&ids, basis.moment) {

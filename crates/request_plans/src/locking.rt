@@ -38,7 +38,8 @@ fn selected<V: FeatureView>(
     basis: &Basis<'_>,
     asked: &[Asked],
 ) -> Result<List<Rid>, PlanFault>
-    ensures { Answers result (or_refused (asked_selected basis.now.schema.now basis.now.stored.now (V.features view.now) asked.now)) }
+    ensures { Answers result (or_refused (asked_selected basis.now.schema.now basis.now.stored.now
+        (V.features view.now) asked.now)) }
 {
     match select_asked(alloc, view, basis.stored, basis.schema, asked) {
         Ok(ids) => Ok(ids),
@@ -49,7 +50,8 @@ fn selected<V: FeatureView>(
 // The number of the lock that an identifier names, which has to be live.
 #[tactic(auto, unfolding(wfs_model::specs::Locking::named))]
 fn named(alloc: Global, basis: &Basis<'_>, id: LockId) -> Result<u64, PlanFault>
-    ensures { (features : Items Feature) (last : ℕ) → Answers result (named (state_in features basis.now last) basis.now.moment id) }
+    ensures { (features : Items Feature) (last : ℕ)
+        → Answers result (named (state_in features basis.now last) basis.now.moment id) }
 {
     number_by(alloc, id, basis.locks.status(id, basis.moment))
 }
@@ -64,9 +66,11 @@ struct NewLock {
 // The lock on features, where they are some.
 #[tactic(auto, unfolding(wfs_model::specs::Locking::lock_on))]
 fn lock_on(basis: &Basis<'_>, period: u32, taken: List<Rid>) -> Mem<NewLock>
-    ensures lock { (features : Items Feature) (last : ℕ) → IfOk result (λ new. new.lock ≡ lock_on (state_in features basis.now last) taken) }
+    ensures lock { (features : Items Feature) (last : ℕ)
+        → IfOk result (λ new. new.lock ≡ lock_on (state_in features basis.now last) taken) }
     ensures work { IfOk result (λ new. new.work ≡ work_on taken period) }
-    ensures numbers { OnOk result (0 < length taken → basis.now.locks.now.given < 18_446_744_073_709_551_615) }
+    ensures numbers { OnOk result (0 < length taken
+        → basis.now.locks.now.given < 18_446_744_073_709_551_615) }
 {
     if taken.items().is_empty() {
         return Ok(NewLock {
@@ -131,7 +135,8 @@ pub(crate) fn plan_page<V: FeatureView>(
     take: Take,
     period: u32,
 ) -> Result<Plan, PlanFault>
-    ensures { Plans (V.features view.now) basis.now (GetLocked present.now asked.now take period) result }
+    ensures { Plans (V.features view.now) basis.now (GetLocked present.now asked.now take period)
+        result }
 {
     let ids = match selected(alloc, view, basis, asked) {
         Ok(ids) => ids,

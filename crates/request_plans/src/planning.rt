@@ -31,7 +31,8 @@ fn planned<V: FeatureView, L: Ledger>(
     requires schema { V.schema view.now ≡ basis.now.schema.now }
     requires change { IsChange request.now }
     requires fitting { IsOfSchema basis.now.schema.now request.now }
-    requires kept { IsKept basis.now.schema.now (durable (state_in (V.features view.now) basis.now 0)) }
+    requires kept { IsKept basis.now.schema.now
+        (durable (state_in (V.features view.now) basis.now 0)) }
     ensures { Plans (V.features view.now) basis.now request.now result }
 {
     match request {
@@ -68,8 +69,10 @@ pub fn plan_request<V: FeatureView, L: Ledger>(
     requires schema { V.schema view.now ≡ basis.now.schema.now }
     requires change { IsChange request.now }
     requires fitting { IsOfSchema basis.now.schema.now request.now }
-    requires kept { IsKept basis.now.schema.now (durable (state_in (V.features view.now) basis.now 0)) }
-    ensures { IfOk result (λ plan. (last : ℕ) → IsPlan basis.now.schema.now (state_in (V.features view.now) basis.now last) basis.now.moment request.now plan) }
+    requires kept { IsKept basis.now.schema.now
+        (durable (state_in (V.features view.now) basis.now 0)) }
+    ensures { IfOk result (λ plan. (last : ℕ) → IsPlan basis.now.schema.now
+        (state_in (V.features view.now) basis.now last) basis.now.moment request.now plan) }
 {
     match planned(alloc, view, basis, request, steps) {
         Ok(plan) => Ok(plan),

@@ -31,7 +31,8 @@ pub(crate) fn plan_creation(
     basis: &Basis<'_>,
     definitions: &List<StoredQuery>,
 ) -> Result<Plan, PlanFault>
-    ensures { (features : Items Feature) → Plans features basis.now (CreateStored definitions.now) result }
+    ensures { (features : Items Feature) → Plans features basis.now (CreateStored definitions.now)
+        result }
 {
     let queries = definitions.items();
     match first_known(basis.stored, queries) {

@@ -82,7 +82,8 @@ pub(crate) fn plan_transaction<V: FeatureView, L: Ledger>(
     requires schema { V.schema view.now ≡ basis.now.schema.now }
     requires transaction { IsTransaction request.now }
     requires fitting { IsOfSchema basis.now.schema.now request.now }
-    requires kept { IsKept basis.now.schema.now (durable (state_in (V.features view.now) basis.now 0)) }
+    requires kept { IsKept basis.now.schema.now
+        (durable (state_in (V.features view.now) basis.now 0)) }
     ensures { Plans (V.features view.now) basis.now request.now result }
 {
     let Request::Transact { lock, release, .. } = request else {

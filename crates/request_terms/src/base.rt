@@ -56,7 +56,8 @@ pub fn srs_of<G: Given>(alloc: Global, srs: &[Text], given: &G) -> Result<(), As
 /// Judges a format, `inputFormat` or `outputFormat` by the name that is told: GML 3.2, else row 11 with the name. It may be missing.
 #[tactic(auto, unfolding(crate::specs::Base::format_of, wfs_ends::specs::Read::unless))]
 pub fn format_of<G: Given>(alloc: Global, name: &str, given: &G) -> Result<(), AskFault>
-    ensures { GivesBut AskFault.OutOfMemory (λ x. x) result (format_of name.now (G.said given.now)) }
+    ensures { GivesBut AskFault.OutOfMemory (λ x. x) result
+        (format_of name.now (G.said given.now)) }
 {
     let Some(text) = given.value_of(name) else {
         return Ok(());

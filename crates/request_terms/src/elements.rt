@@ -43,7 +43,8 @@ pub fn is_wfs(element: &Element, local: &str) -> bool
 /// Refuses attributes in no namespace other than those listed: the first by name is row 12 with its name.
 #[tactic(auto, unfolding(crate::specs::Elements::no_others))]
 pub fn no_others(alloc: Global, element: &Element, listed: &[&str]) -> Result<(), AskFault>
-    ensures { GivesBut AskFault.OutOfMemory (λ x. x) result (no_others (map (λ n. n.now) listed.now) element.now) }
+    ensures { GivesBut AskFault.OutOfMemory (λ x. x) result
+        (no_others (map (λ n. n.now) listed.now) element.now) }
 {
     match first_other(listed, element.attributes.items()) {
         None => Ok(()),

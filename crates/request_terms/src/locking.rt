@@ -51,7 +51,8 @@ fn release_word(text: &str) -> Option<Release>
 /// is said, the features that it touches by `SOME`; another word is row 11.
 #[tactic(auto, unfolding(crate::specs::Locking::release_of))]
 pub fn release_of<G: Given>(alloc: Global, given: &G) -> Result<Release, AskFault>
-    ensures { GivesBut AskFault.OutOfMemory (λ release. release) result (release_of (G.said given.now)) }
+    ensures { GivesBut AskFault.OutOfMemory (λ release. release) result
+        (release_of (G.said given.now)) }
 {
     let Some(text) = given.value_of("releaseAction") else {
         return Ok(Release::Whole);
@@ -87,7 +88,8 @@ fn seconds_in(text: &str) -> Option<u32>
 /// decimal digits, else row 11.
 #[tactic(auto, unfolding(crate::specs::Locking::expiry_of, crate::specs::Locking::seconds_in))]
 pub fn expiry_of<G: Given>(alloc: Global, given: &G) -> Result<Option<u32>, AskFault>
-    ensures read { GivesBut AskFault.OutOfMemory (λ expiry. expiry) result (expiry_of (G.said given.now)) }
+    ensures read { GivesBut AskFault.OutOfMemory (λ expiry. expiry) result
+        (expiry_of (G.said given.now)) }
     ensures some { IfOk result (λ expiry. IfSome expiry (λ seconds. 1 ≤ seconds)) }
 {
     let Some(text) = given.value_of("expiry") else {
@@ -100,7 +102,8 @@ pub fn expiry_of<G: Given>(alloc: Global, given: &G) -> Result<Option<u32>, AskF
 /// For how many seconds a new lock lives: what `expiry_of` gives, or 300 where nothing is said.
 #[tactic(auto, unfolding(crate::specs::Locking::period_of))]
 pub fn period_of<G: Given>(alloc: Global, given: &G) -> Result<u32, AskFault>
-    ensures read { GivesBut AskFault.OutOfMemory (λ period. period) result (period_of (G.said given.now)) }
+    ensures read { GivesBut AskFault.OutOfMemory (λ period. period) result
+        (period_of (G.said given.now)) }
     ensures some { IfOk result (λ period. 1 ≤ period) }
 {
     match expiry_of(alloc, given)? {

@@ -78,7 +78,8 @@ impl Operation {
 /// The operation of a name, whose case counts. A name of none is row 9 with the name.
 #[tactic(auto, unfolding(crate::specs::Operations::operation_of))]
 pub fn operation_of(alloc: Global, name: &str) -> Result<Operation, AskFault>
-    ensures { GivesBut AskFault.OutOfMemory (λ operation. operation) result (operation_of name.now) }
+    ensures { GivesBut AskFault.OutOfMemory (λ operation. operation) result
+        (operation_of name.now) }
 {
     or_refused(alloc, Operation::named(name), 9, name)
 }
@@ -87,7 +88,8 @@ pub fn operation_of(alloc: Global, name: &str) -> Result<Operation, AskFault>
 /// not come as a query, is row 9 with the name.
 #[tactic(auto, unfolding(crate::specs::Operations::queried_of, crate::specs::Said::required_of, wfs_ends::specs::Read::unless))]
 pub fn queried_of<G: Given>(alloc: Global, given: &G) -> Result<Operation, AskFault>
-    ensures { GivesBut AskFault.OutOfMemory (λ operation. operation) result (queried_of (G.said given.now)) }
+    ensures { GivesBut AskFault.OutOfMemory (λ operation. operation) result
+        (queried_of (G.said given.now)) }
 {
     let Some(name) = given.value_of("request") else {
         return Err(refused(alloc, 10, "request"));

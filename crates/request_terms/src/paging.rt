@@ -38,7 +38,8 @@ impl Page {
 // The number at a name.
 #[tactic(auto, unfolding(crate::specs::Paging::number_of))]
 fn number_of<G: Given>(alloc: Global, name: &str, given: &G) -> Result<Option<u32>, AskFault>
-    ensures { GivesBut AskFault.OutOfMemory (λ n. n) result (number_of name.now (G.said given.now)) }
+    ensures { GivesBut AskFault.OutOfMemory (λ n. n) result
+        (number_of name.now (G.said given.now)) }
 {
     let Some(text) = given.value_of(name) else {
         return Ok(None);
@@ -88,7 +89,8 @@ fn resolve_of<G: Given>(alloc: Global, given: &G) -> Result<(), AskFault>
 
 #[tactic(auto, unfolding(crate::specs::Paging::page_by))]
 fn page_by<G: Given>(alloc: Global, may_count: bool, given: &G) -> Result<Page, AskFault>
-    ensures { GivesBut AskFault.OutOfMemory (λ page. page) result (page_by may_count (G.said given.now)) }
+    ensures { GivesBut AskFault.OutOfMemory (λ page. page) result
+        (page_by may_count (G.said given.now)) }
 {
     let count = number_of(alloc, "count", given)?;
     let start = number_of(alloc, "startIndex", given)?;
@@ -112,7 +114,8 @@ pub fn page_of<G: Given>(alloc: Global, given: &G) -> Result<Page, AskFault>
 /// The page of a request that locks the features which it presents (OGC 09-025r2, section 13.2): as `page_of`, but a `resultType`
 /// of `hits` is row 11 as well.
 pub fn locked_page_of<G: Given>(alloc: Global, given: &G) -> Result<Page, AskFault>
-    ensures { GivesBut AskFault.OutOfMemory (λ page. page) result (locked_page_of (G.said given.now)) }
+    ensures { GivesBut AskFault.OutOfMemory (λ page. page) result
+        (locked_page_of (G.said given.now)) }
 {
     page_by(alloc, false, given)
 }

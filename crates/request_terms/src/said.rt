@@ -49,7 +49,8 @@ pub fn value_of<G: Given>(alloc: Global, given: &G, name: &str) -> Mem<Option<Te
 /// A copy of a value that has to be there. A missing one is row 10 with the name.
 #[tactic(auto, unfolding(crate::specs::Said::required_of))]
 pub fn required_of<G: Given>(alloc: Global, given: &G, name: &str) -> Result<Text, AskFault>
-    ensures { GivesBut AskFault.OutOfMemory (λ text. text) result (required_of name.now (G.said given.now)) }
+    ensures { GivesBut AskFault.OutOfMemory (λ text. text) result
+        (required_of name.now (G.said given.now)) }
 {
     match given.value_of(name) {
         Some(value) => Ok(value.copy(alloc)?),
@@ -60,7 +61,8 @@ pub fn required_of<G: Given>(alloc: Global, given: &G, name: &str) -> Result<Tex
 /// The type of a name, whose prefix is dropped and not judged. An unknown one is row 11 with the part of the request that names it.
 #[tactic(auto, unfolding(crate::specs::Said::kind_of), using(crate::proofs::Named::is_type))]
 pub fn kind_of(alloc: Global, schema: &Schema, part: &str, name: &str) -> Result<u32, AskFault>
-    ensures read { GivesBut AskFault.OutOfMemory (λ kind. kind) result (kind_of schema.now part.now name.now) }
+    ensures read { GivesBut AskFault.OutOfMemory (λ kind. kind) result
+        (kind_of schema.now part.now name.now) }
     ensures known { IfOk result (λ kind. kind < length schema.now.types) }
 {
     let Some(kind) = schema.type_named(without_prefix(name)) else {

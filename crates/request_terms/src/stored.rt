@@ -24,7 +24,8 @@ pub fn is_id_query(id: &str) -> bool
 /// `storedQuery_id`.
 #[tactic(auto, unfolding(crate::specs::Stored::dropped_of, wfs_ends::specs::Read::unless))]
 pub fn dropped_of<G: Given>(alloc: Global, name: &str, given: &G) -> Result<Text, AskFault>
-    ensures read { GivesBut AskFault.OutOfMemory (λ id. id) result (dropped_of name.now (G.said given.now)) }
+    ensures read { GivesBut AskFault.OutOfMemory (λ id. id) result
+        (dropped_of name.now (G.said given.now)) }
     ensures other { IfOk result (λ id. is_id_query id ≡ false) }
 {
     let id = required_of(alloc, given, name)?;

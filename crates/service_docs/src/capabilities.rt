@@ -18,7 +18,9 @@ const SERVICE: &[u8] =
 
 // Gives an operation that is asked for by GET and by POST.
 fn put_operation<S: Sink>(sink: &mut S, failed: bool, address: &Text, name: &[u8]) -> bool
-    ensures { Writes (record { shown = S.sink sink.old; failed = failed }) (operation_text address.now name.now) (record { shown = S.sink sink.new; failed = result }) }
+    ensures { Writes (record { shown = S.sink sink.old; failed = failed })
+        (operation_text address.now name.now)
+        (record { shown = S.sink sink.new; failed = result }) }
 {
     let failed = put_on(sink, failed, b"<ows:Operation name=\"");
     let failed = put_on(sink, failed, name);
@@ -35,7 +37,9 @@ fn put_operation<S: Sink>(sink: &mut S, failed: bool, address: &Text, name: &[u8
 
 // Gives an operation that is asked for by POST alone.
 fn put_post_operation<S: Sink>(sink: &mut S, failed: bool, address: &Text, name: &[u8]) -> bool
-    ensures { Writes (record { shown = S.sink sink.old; failed = failed }) (post_operation_text address.now name.now) (record { shown = S.sink sink.new; failed = result }) }
+    ensures { Writes (record { shown = S.sink sink.old; failed = failed })
+        (post_operation_text address.now name.now)
+        (record { shown = S.sink sink.new; failed = result }) }
 {
     let failed = put_on(sink, failed, b"<ows:Operation name=\"");
     let failed = put_on(sink, failed, name);
@@ -50,7 +54,8 @@ fn put_post_operation<S: Sink>(sink: &mut S, failed: bool, address: &Text, name:
 
 // Gives all operations.
 fn put_operations<S: Sink>(sink: &mut S, failed: bool, address: &Text) -> bool
-    ensures { Writes (record { shown = S.sink sink.old; failed = failed }) (operations_text address.now) (record { shown = S.sink sink.new; failed = result }) }
+    ensures { Writes (record { shown = S.sink sink.old; failed = failed })
+        (operations_text address.now) (record { shown = S.sink sink.new; failed = result }) }
 {
     let failed = put_operation(sink, failed, address, b"GetCapabilities");
     let failed = put_operation(sink, failed, address, b"DescribeFeatureType");
@@ -67,7 +72,8 @@ fn put_operations<S: Sink>(sink: &mut S, failed: bool, address: &Text) -> bool
 
 // Gives a name of the reference system that is not the first.
 fn put_other_system<S: Sink>(sink: &mut S, failed: bool, name: &Text) -> bool
-    ensures { Writes (record { shown = S.sink sink.old; failed = failed }) (other_system_text name.now) (record { shown = S.sink sink.new; failed = result }) }
+    ensures { Writes (record { shown = S.sink sink.old; failed = failed })
+        (other_system_text name.now) (record { shown = S.sink sink.new; failed = result }) }
 {
     let failed = put_on(sink, failed, b"<wfs:OtherCRS>");
     let failed = put_escaped(sink, failed, name, false);
@@ -75,7 +81,9 @@ fn put_other_system<S: Sink>(sink: &mut S, failed: bool, name: &Text) -> bool
 }
 
 fn put_other_systems<S: Sink>(sink: &mut S, failed: bool, names: &[Text]) -> bool
-    ensures { Writes (record { shown = S.sink sink.old; failed = failed }) (flat_map other_system_text names.now) (record { shown = S.sink sink.new; failed = result }) }
+    ensures { Writes (record { shown = S.sink sink.old; failed = failed })
+        (flat_map other_system_text names.now)
+        (record { shown = S.sink sink.new; failed = result }) }
 {
     let mut failed = put_on(sink, failed, b"");
     for name in names {
@@ -85,7 +93,9 @@ fn put_other_systems<S: Sink>(sink: &mut S, failed: bool, names: &[Text]) -> boo
 }
 
 fn put_some_systems<S: Sink>(sink: &mut S, failed: bool, first: &Text, others: &[Text]) -> bool
-    ensures { Writes (record { shown = S.sink sink.old; failed = failed }) (some_systems_text first.now others.now) (record { shown = S.sink sink.new; failed = result }) }
+    ensures { Writes (record { shown = S.sink sink.old; failed = failed })
+        (some_systems_text first.now others.now)
+        (record { shown = S.sink sink.new; failed = result }) }
 {
     let failed = put_on(sink, failed, b"<wfs:DefaultCRS>");
     let failed = put_escaped(sink, failed, first, false);
@@ -95,7 +105,8 @@ fn put_some_systems<S: Sink>(sink: &mut S, failed: bool, first: &Text, others: &
 
 // Gives the names of the reference system.
 fn put_systems<S: Sink>(sink: &mut S, failed: bool, names: &List<Text>) -> bool
-    ensures { Writes (record { shown = S.sink sink.old; failed = failed }) (systems_text names.now) (record { shown = S.sink sink.new; failed = result }) }
+    ensures { Writes (record { shown = S.sink sink.old; failed = failed }) (systems_text names.now)
+        (record { shown = S.sink sink.new; failed = result }) }
 {
     match names.items() {
         [] => put_on(sink, failed, b""),
@@ -104,7 +115,8 @@ fn put_systems<S: Sink>(sink: &mut S, failed: bool, names: &List<Text>) -> bool
 }
 
 fn put_type<S: Sink>(sink: &mut S, failed: bool, schema: &Schema, of_type: &FeatureType) -> bool
-    ensures { Writes (record { shown = S.sink sink.old; failed = failed }) (type_text schema.now of_type.now) (record { shown = S.sink sink.new; failed = result }) }
+    ensures { Writes (record { shown = S.sink sink.old; failed = failed })
+        (type_text schema.now of_type.now) (record { shown = S.sink sink.new; failed = result }) }
 {
     let failed = put_on(sink, failed, b"<wfs:FeatureType><wfs:Name>");
     let failed = put_plain(sink, failed, &schema.prefix);
@@ -119,7 +131,9 @@ fn put_type<S: Sink>(sink: &mut S, failed: bool, schema: &Schema, of_type: &Feat
 
 // Gives all types.
 fn put_each_type<S: Sink>(sink: &mut S, failed: bool, schema: &Schema) -> bool
-    ensures { Writes (record { shown = S.sink sink.old; failed = failed }) (flat_map (type_text schema.now) schema.now.types) (record { shown = S.sink sink.new; failed = result }) }
+    ensures { Writes (record { shown = S.sink sink.old; failed = failed })
+        (flat_map (type_text schema.now) schema.now.types)
+        (record { shown = S.sink sink.new; failed = result }) }
 {
     let mut failed = put_on(sink, failed, b"");
     for of_type in schema.types.items() {
@@ -130,7 +144,8 @@ fn put_each_type<S: Sink>(sink: &mut S, failed: bool, schema: &Schema) -> bool
 
 // Gives the start of the root, with the namespaces.
 fn put_declared<S: Sink>(sink: &mut S, failed: bool, schema: &Schema) -> bool
-    ensures { Writes (record { shown = S.sink sink.old; failed = failed }) (declared_text schema.now) (record { shown = S.sink sink.new; failed = result }) }
+    ensures { Writes (record { shown = S.sink sink.old; failed = failed })
+        (declared_text schema.now) (record { shown = S.sink sink.new; failed = result }) }
 {
     let failed = put_on(sink, failed, START);
     let failed = put_plain(sink, failed, &schema.prefix);
@@ -144,7 +159,8 @@ fn put_declared<S: Sink>(sink: &mut S, failed: bool, schema: &Schema) -> bool
 ///
 /// A writer of several pieces hands the answer of each call to the next one, and looks at the last alone.
 pub fn put_capabilities_on<S: Sink>(sink: &mut S, failed: bool, schema: &Schema) -> bool
-    ensures { Writes (record { shown = S.sink sink.old; failed = failed }) (capabilities_document schema.now) (record { shown = S.sink sink.new; failed = result }) }
+    ensures { Writes (record { shown = S.sink sink.old; failed = failed })
+        (capabilities_document schema.now) (record { shown = S.sink sink.new; failed = result }) }
 {
     let failed = put_declared(sink, failed, schema);
     let failed = put_on(sink, failed, b"<ows:ServiceIdentification><ows:Title>");

@@ -32,14 +32,16 @@ fn kind_name(kind: ValueKind) -> &'static [u8]
 
 // Gives the type of the values of a kind.
 fn put_kind<S: Sink>(sink: &mut S, failed: bool, kind: ValueKind) -> bool
-    ensures { Writes (record { shown = S.sink sink.old; failed = failed }) (kind_name kind) (record { shown = S.sink sink.new; failed = result }) }
+    ensures { Writes (record { shown = S.sink sink.old; failed = failed }) (kind_name kind)
+        (record { shown = S.sink sink.new; failed = result }) }
 {
     put_on(sink, failed, kind_name(kind))
 }
 
 // Says that a property may be absent, where it is not required.
 fn put_occurs<S: Sink>(sink: &mut S, failed: bool, required: bool) -> bool
-    ensures { Writes (record { shown = S.sink sink.old; failed = failed }) (occurs_text required) (record { shown = S.sink sink.new; failed = result }) }
+    ensures { Writes (record { shown = S.sink sink.old; failed = failed }) (occurs_text required)
+        (record { shown = S.sink sink.new; failed = result }) }
 {
     if required {
         put_on(sink, failed, b"")
@@ -49,7 +51,8 @@ fn put_occurs<S: Sink>(sink: &mut S, failed: bool, required: bool) -> bool
 }
 
 fn put_property<S: Sink>(sink: &mut S, failed: bool, property: &Property) -> bool
-    ensures { Writes (record { shown = S.sink sink.old; failed = failed }) (property_text property.now) (record { shown = S.sink sink.new; failed = result }) }
+    ensures { Writes (record { shown = S.sink sink.old; failed = failed })
+        (property_text property.now) (record { shown = S.sink sink.new; failed = result }) }
 {
     let failed = put_on(sink, failed, b"<xs:element name=\"");
     let failed = put_plain(sink, failed, &property.name);
@@ -61,7 +64,9 @@ fn put_property<S: Sink>(sink: &mut S, failed: bool, property: &Property) -> boo
 }
 
 fn put_each_property<S: Sink>(sink: &mut S, failed: bool, properties: &List<Property>) -> bool
-    ensures { Writes (record { shown = S.sink sink.old; failed = failed }) (flat_map property_text properties.now) (record { shown = S.sink sink.new; failed = result }) }
+    ensures { Writes (record { shown = S.sink sink.old; failed = failed })
+        (flat_map property_text properties.now)
+        (record { shown = S.sink sink.new; failed = result }) }
 {
     let mut failed = put_on(sink, failed, b"");
     for property in properties.items() {
@@ -71,7 +76,9 @@ fn put_each_property<S: Sink>(sink: &mut S, failed: bool, properties: &List<Prop
 }
 
 fn put_some_properties<S: Sink>(sink: &mut S, failed: bool, properties: &List<Property>) -> bool
-    ensures { Writes (record { shown = S.sink sink.old; failed = failed }) (some_properties_text properties.now) (record { shown = S.sink sink.new; failed = result }) }
+    ensures { Writes (record { shown = S.sink sink.old; failed = failed })
+        (some_properties_text properties.now)
+        (record { shown = S.sink sink.new; failed = result }) }
 {
     let failed = put_on(sink, failed, b"<xs:sequence>");
     let failed = put_each_property(sink, failed, properties);
@@ -81,7 +88,8 @@ fn put_some_properties<S: Sink>(sink: &mut S, failed: bool, properties: &List<Pr
 // Gives the properties of a type, in order.
 #[tactic(auto, unfolding(crate::specs::SchemaDocument::properties_text))]
 fn put_properties<S: Sink>(sink: &mut S, failed: bool, properties: &List<Property>) -> bool
-    ensures { Writes (record { shown = S.sink sink.old; failed = failed }) (properties_text properties.now) (record { shown = S.sink sink.new; failed = result }) }
+    ensures { Writes (record { shown = S.sink sink.old; failed = failed })
+        (properties_text properties.now) (record { shown = S.sink sink.new; failed = result }) }
 {
     if properties.items().is_empty() {
         put_on(sink, failed, b"<xs:sequence/>")
@@ -92,7 +100,8 @@ fn put_properties<S: Sink>(sink: &mut S, failed: bool, properties: &List<Propert
 
 // Gives a type: the element of its features, and the type of this element.
 fn put_type<S: Sink>(sink: &mut S, failed: bool, schema: &Schema, of_type: &FeatureType) -> bool
-    ensures { Writes (record { shown = S.sink sink.old; failed = failed }) (type_text schema.now of_type.now) (record { shown = S.sink sink.new; failed = result }) }
+    ensures { Writes (record { shown = S.sink sink.old; failed = failed })
+        (type_text schema.now of_type.now) (record { shown = S.sink sink.new; failed = result }) }
 {
     let failed = put_on(sink, failed, b"<xs:element name=\"");
     let failed = put_plain(sink, failed, &of_type.name);
@@ -122,7 +131,8 @@ fn put_type<S: Sink>(sink: &mut S, failed: bool, schema: &Schema, of_type: &Feat
 // Gives the type with this number, where the schema has one.
 #[tactic(auto, unfolding(crate::specs::SchemaDocument::numbered_text))]
 fn put_numbered<S: Sink>(sink: &mut S, failed: bool, schema: &Schema, number: u32) -> bool
-    ensures { Writes (record { shown = S.sink sink.old; failed = failed }) (numbered_text schema.now number) (record { shown = S.sink sink.new; failed = result }) }
+    ensures { Writes (record { shown = S.sink sink.old; failed = failed })
+        (numbered_text schema.now number) (record { shown = S.sink sink.new; failed = result }) }
 {
     match schema.types.items().get(number as usize) {
         None => put_on(sink, failed, b""),
@@ -150,7 +160,9 @@ fn put_new<S: Sink>(
     before: &[u32],
     number: u32,
 ) -> bool
-    ensures { Writes (record { shown = S.sink sink.old; failed = failed }) (flat_map (numbered_text schema.now) (new_number before.now number)) (record { shown = S.sink sink.new; failed = result }) }
+    ensures { Writes (record { shown = S.sink sink.old; failed = failed })
+        (flat_map (numbered_text schema.now) (new_number before.now number))
+        (record { shown = S.sink sink.new; failed = result }) }
 {
     if is_among(before, number) {
         put_on(sink, failed, b"")
@@ -161,7 +173,9 @@ fn put_new<S: Sink>(
 
 // Gives the types with these numbers, in order, each once.
 fn put_numbers<S: Sink>(sink: &mut S, failed: bool, schema: &Schema, types: &[u32]) -> bool
-    ensures { Writes (record { shown = S.sink sink.old; failed = failed }) (flat_map (numbered_text schema.now) (each_once types.now)) (record { shown = S.sink sink.new; failed = result }) }
+    ensures { Writes (record { shown = S.sink sink.old; failed = failed })
+        (flat_map (numbered_text schema.now) (each_once types.now))
+        (record { shown = S.sink sink.new; failed = result }) }
 {
     let mut failed = put_on(sink, failed, b"");
     for at in 0..types.len() {
@@ -171,14 +185,17 @@ fn put_numbers<S: Sink>(sink: &mut S, failed: bool, schema: &Schema, types: &[u3
 }
 
 fn put_each_type<S: Sink>(sink: &mut S, failed: bool, schema: &Schema, types: &List<u32>) -> bool
-    ensures { Writes (record { shown = S.sink sink.old; failed = failed }) (flat_map (numbered_text schema.now) (each_once types.now)) (record { shown = S.sink sink.new; failed = result }) }
+    ensures { Writes (record { shown = S.sink sink.old; failed = failed })
+        (flat_map (numbered_text schema.now) (each_once types.now))
+        (record { shown = S.sink sink.new; failed = result }) }
 {
     put_numbers(sink, failed, schema, types.items())
 }
 
 // Gives the start of the document, with the namespaces and the import of GML's schema.
 fn put_declared<S: Sink>(sink: &mut S, failed: bool, schema: &Schema) -> bool
-    ensures { Writes (record { shown = S.sink sink.old; failed = failed }) (declared_text schema.now) (record { shown = S.sink sink.new; failed = result }) }
+    ensures { Writes (record { shown = S.sink sink.old; failed = failed })
+        (declared_text schema.now) (record { shown = S.sink sink.new; failed = result }) }
 {
     let failed = put_on(sink, failed, START);
     let failed = put_plain(sink, failed, &schema.prefix);
@@ -198,7 +215,9 @@ pub fn put_schema_on<S: Sink>(
     types: &List<u32>,
     schema: &Schema,
 ) -> bool
-    ensures { Writes (record { shown = S.sink sink.old; failed = failed }) (schema_document schema.now types.now) (record { shown = S.sink sink.new; failed = result }) }
+    ensures { Writes (record { shown = S.sink sink.old; failed = failed })
+        (schema_document schema.now types.now)
+        (record { shown = S.sink sink.new; failed = result }) }
 {
     let failed = put_declared(sink, failed, schema);
     let failed = put_each_type(sink, failed, schema, types);
@@ -215,7 +234,8 @@ pub fn put_schema<S: Sink>(
     schema: &Schema,
     sink: &mut S,
 ) -> Result<(), WriteFault>
-    ensures { Gives result (S.sink sink.old) (schema_document schema.now types.now) (S.sink sink.new) }
+    ensures { Gives result (S.sink sink.old) (schema_document schema.now types.now)
+        (S.sink sink.new) }
 {
     if put_schema_on(sink, false, types, schema) {
         Err(WriteFault)

@@ -19,12 +19,15 @@ pub trait Acceptor {
     /// Hands out the first of the links to come, and answers None exactly where there is none. It may wait for one.
     /// `Failed` changes nothing, and comes only where the count of failed calls rose.
     fn accept(&mut self) -> Result<Option<Self::Link>, Failed>
-        ensures first { IfOk result (λ r. IfSome r (λ link. HandsOut (accepting self.old) (Self.Link.Source.source link) (accepting self.new))) }
+        ensures first { IfOk result (λ r. IfSome r
+            (λ link. HandsOut (accepting self.old) (Self.Link.Source.source link)
+            (accepting self.new))) }
         ensures none { result ≡ Ok None → HasNoLink (accepting self.old) (accepting self.new) }
         ensures err { OnErr result (HasFailed (accepting self.old) (accepting self.new)) };
 
     /// Takes back a link that it has handed out.
     fn finish(&mut self, link: Self::Link)
         requires { 0 < (accepting self.old).out }
-        ensures { accepting self.new ≡ with_finished (accepting self.old) (Self.Link.Source.source link) };
+        ensures { accepting self.new ≡ with_finished (accepting self.old)
+            (Self.Link.Source.source link) };
 }

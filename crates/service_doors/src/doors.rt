@@ -49,8 +49,10 @@ pub trait Doors {
         address: &str,
         workers: u32,
     ) -> Result<Vec<Self::Acceptor>, DoorFault>
-        ensures opens { IfOk result (λ v. Opens (listening self.old) (asking address.now workers) (map Self.Acceptor.accepting v.items) (listening self.new)) }
-        ensures err { IfErr result (λ fault. Refuses fault (listening self.old) (listening self.new)) };
+        ensures opens { IfOk result (λ v. Opens (listening self.old) (asking address.now workers)
+            (map Self.Acceptor.accepting v.items) (listening self.new)) }
+        ensures err { IfErr result (λ fault. Refuses fault (listening self.old)
+            (listening self.new)) };
 }
 
 impl From<OutOfMemory> for DoorFault {

@@ -26,7 +26,8 @@ impl Model for MemAcceptor {
 
     ghost view = { λ m. row_of m.links.items m.at m.out m.calls };
 
-    ghost invariant = { λ m. (m.at ≤ length m.links.items) × (length m.links.items + m.out ≤ vec_capacity m.links) };
+    ghost invariant = { λ m. (m.at ≤ length m.links.items)
+        × (length m.links.items + m.out ≤ vec_capacity m.links) };
 }
 
 impl MemAcceptor {

@@ -26,7 +26,11 @@ impl Model for MemDoors {
 
     ghost Value = { Entry };
 
-    ghost view = { λ m. record { waiting = m.waiting.items; asked = m.asked.items; calls = m.calls } };
+    ghost view = { λ m. record {
+      waiting = m.waiting.items;
+      asked = m.asked.items;
+      calls = m.calls;
+    } };
 
     ghost invariant = { λ m. All IsNewRow m.waiting.items };
 }
@@ -61,7 +65,11 @@ impl MemDoors {
     /// Doors with these acceptors, of which no call was made yet, whose listed calls fail. It takes no memory.
     pub fn new(alloc: Global, acceptors: Vec<MemAcceptor>, failing: Vec<u64>) -> MemDoors
         requires { All IsNewRow acceptors.items }
-        ensures { result ≡ record { waiting = acceptors.items; asked = []; calls = new_calls failing.items } }
+        ensures { result ≡ record {
+          waiting = acceptors.items;
+          asked = [];
+          calls = new_calls failing.items;
+        } }
     {
         MemDoors {
             waiting: acceptors,
@@ -90,8 +98,10 @@ impl Doors for MemDoors {
         workers: u32,
     ) -> Result<Vec<MemAcceptor>, DoorFault>
         ensures given { IfOk result (λ v. v.items ≡ first_of no_links workers self.old.waiting) }
-        ensures opens { IfOk result (λ v. Opens (listening_of self.old) (asking address.now workers) (map accepting_of v.items) (listening_of self.new)) }
-        ensures moved { OnOk result (self.new ≡ after_listen self.old (asking address.now workers)) }
+        ensures opens { IfOk result (λ v. Opens (listening_of self.old) (asking address.now workers)
+            (map accepting_of v.items) (listening_of self.new)) }
+        ensures moved { OnOk result (self.new ≡ after_listen self.old
+            (asking address.now workers)) }
         ensures calm { OnOk result (Contains self.old.calls.failing self.old.calls.made → ⊥) }
         ensures err { IfErr result (λ fault. RefusesEntry fault self.old self.new) }
     {

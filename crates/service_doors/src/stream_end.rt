@@ -19,7 +19,8 @@ pub struct StreamEnd<S> {
 impl<S: Read + Write + Drop> StreamEnd<S> {
     /// A link over an open connection.
     pub fn of(stream: S) -> StreamEnd<S>
-        ensures { ⟦<StreamEnd<S> as Source>⟧.source result ≡ both (only_source None 0) (only_sink Untold 0) }
+        ensures { ⟦<StreamEnd<S> as Source>⟧.source result
+            ≡ both (only_source None 0) (only_sink Untold 0) }
     {
         StreamEnd {
             stream: Some(stream),
@@ -30,7 +31,8 @@ impl<S: Read + Write + Drop> StreamEnd<S> {
 
     /// A link whose connection is lost: each read and write of it fails.
     pub fn lost() -> StreamEnd<S>
-        ensures { ⟦<StreamEnd<S> as Source>⟧.source result ≡ both (only_source None 0) (only_sink Untold 0) }
+        ensures { ⟦<StreamEnd<S> as Source>⟧.source result
+            ≡ both (only_source None 0) (only_sink Untold 0) }
     {
         StreamEnd {
             stream: None,

@@ -92,7 +92,13 @@ impl<R: Net> TcpAcceptor<R> {
 impl<R: Net> Acceptor for TcpAcceptor<R> {
     type Link = StreamEnd<R::Stream>;
 
-    ghost accepting = { λ a. record { left = None; done = None; out = a.out; finished = a.finished; faults = a.faults } };
+    ghost accepting = { λ a. record {
+      left = None;
+      done = None;
+      out = a.out;
+      finished = a.finished;
+      faults = a.faults;
+    } };
 
     fn accept(&mut self) -> Result<Option<StreamEnd<R::Stream>>, Failed> {
         match next_connection(&self.listener) {
@@ -131,7 +137,8 @@ fn open<R: Net>(
     requires none { acceptors.old.items ≡ [] }
     requires room { workers ≤ vec_capacity acceptors.old }
     ensures number { OnOk result (length acceptors.new.items ≡ workers) }
-    ensures fresh { OnOk result (All (λ a. IsNew (untold a.out a.finished a.faults)) acceptors.new.items) }
+    ensures fresh { OnOk result (All (λ a. IsNew (untold a.out a.finished a.faults))
+        acceptors.new.items) }
 {
     let listener = TcpListener::bind(runtime, address)?;
     for _worker in 0..workers {
@@ -146,7 +153,8 @@ fn open<R: Net>(
 impl<'a, R: Net> TcpDoors<'a, R> {
     /// The doors of this runtime, which listen nowhere yet.
     pub fn of(runtime: &'a R) -> TcpDoors<'a, R>
-        ensures { ⟦<TcpDoors<'a, R> as Doors>⟧.listening result ≡ record { asked = None; ready = None; faults = 0 } }
+        ensures { ⟦<TcpDoors<'a, R> as Doors>⟧.listening result
+            ≡ record { asked = None; ready = None; faults = 0 } }
     {
         TcpDoors { runtime, faults: 0 }
     }

@@ -302,14 +302,17 @@ fn counted<'a, L: Ledger>(
     requires name { blank.name ≡ L.name }
     requires parts { blank.parts ≡ L.parts }
     requires some { 0 < blank.parts }
-    requires schema { ⟦<Overlay<'a, Nothing> as FeatureView>⟧.schema view.now ≡ basis.now.schema.now }
-    requires features { AreThree basis.now.schema.now (⟦<Overlay<'a, Nothing> as FeatureView>⟧.features view.now) }
+    requires schema { ⟦<Overlay<'a, Nothing> as FeatureView>⟧.schema view.now
+        ≡ basis.now.schema.now }
+    requires features { AreThree basis.now.schema.now
+        (⟦<Overlay<'a, Nothing> as FeatureView>⟧.features view.now) }
     requires counters { basis.now.counters.now ≡ 3 ∷ [] }
     requires stored { basis.now.stored.now ≡ [] }
     requires opening { basis.now.locks.now.opening ≡ 1 }
     requires change { IsChange request.now }
     requires fitting { IsOfSchema basis.now.schema.now request.now }
-    ensures { IfOk result (λ plan. IsDoable plan.lock basis.now.locks.now.given basis.now.moment basis.now.locks.now.locks) }
+    ensures { IfOk result (λ plan. IsDoable plan.lock basis.now.locks.now.given basis.now.moment
+        basis.now.locks.now.locks) }
 {
     let mut steps = Steps::<L>::new(blank);
     plan_request(alloc, view, basis, request, &mut steps)
@@ -321,14 +324,17 @@ fn planned<'a>(
     basis: &Basis<'_>,
     request: &Request,
 ) -> Mem<Plan>
-    requires schema { ⟦<Overlay<'a, Nothing> as FeatureView>⟧.schema view.now ≡ basis.now.schema.now }
-    requires features { AreThree basis.now.schema.now (⟦<Overlay<'a, Nothing> as FeatureView>⟧.features view.now) }
+    requires schema { ⟦<Overlay<'a, Nothing> as FeatureView>⟧.schema view.now
+        ≡ basis.now.schema.now }
+    requires features { AreThree basis.now.schema.now
+        (⟦<Overlay<'a, Nothing> as FeatureView>⟧.features view.now) }
     requires counters { basis.now.counters.now ≡ 3 ∷ [] }
     requires stored { basis.now.stored.now ≡ [] }
     requires opening { basis.now.locks.now.opening ≡ 1 }
     requires change { IsChange request.now }
     requires fitting { IsOfSchema basis.now.schema.now request.now }
-    ensures { IfOk result (λ plan. IsDoable plan.lock basis.now.locks.now.given basis.now.moment basis.now.locks.now.locks) }
+    ensures { IfOk result (λ plan. IsDoable plan.lock basis.now.locks.now.given basis.now.moment
+        basis.now.locks.now.locks) }
 {
     counted::<Brand>(alloc, view, basis, request, Blank::new(1))
 }
@@ -344,7 +350,8 @@ fn over_locks<'a>(
     moment: u64,
 ) -> Mem<Plan>
     requires schema { ⟦<Overlay<'a, Nothing> as FeatureView>⟧.schema view.now ≡ schema.now }
-    requires features { AreThree schema.now (⟦<Overlay<'a, Nothing> as FeatureView>⟧.features view.now) }
+    requires features { AreThree schema.now (⟦<Overlay<'a, Nothing> as FeatureView>⟧.features
+        view.now) }
     requires counters { counters.now ≡ 3 ∷ [] }
     requires opening { locks.now.opening ≡ 1 }
     requires given { locks.now.given ≡ 1 }
@@ -390,7 +397,8 @@ fn is_answered<'a>(
     case: &Case,
 ) -> Mem<bool>
     requires schema { ⟦<Overlay<'a, Nothing> as FeatureView>⟧.schema view.now ≡ schema.now }
-    requires features { AreThree schema.now (⟦<Overlay<'a, Nothing> as FeatureView>⟧.features view.now) }
+    requires features { AreThree schema.now (⟦<Overlay<'a, Nothing> as FeatureView>⟧.features
+        view.now) }
     requires counters { counters.now ≡ 3 ∷ [] }
     requires change { IsChange request.now }
     requires fitting { IsOfSchema schema.now request.now }
@@ -413,7 +421,8 @@ fn holds<'a>(
 ) -> Mem<bool>
     requires schema { ⟦<Overlay<'a, Nothing> as FeatureView>⟧.schema view.now ≡ schema.now }
     requires marks { AreMarks schema.now }
-    requires features { AreThree schema.now (⟦<Overlay<'a, Nothing> as FeatureView>⟧.features view.now) }
+    requires features { AreThree schema.now (⟦<Overlay<'a, Nothing> as FeatureView>⟧.features
+        view.now) }
     requires counters { counters.now ≡ 3 ∷ [] }
 {
     let request = request(alloc, schema, case.2)?;
@@ -428,7 +437,8 @@ fn first_of<'a>(
 ) -> Mem<Option<&'static str>>
     requires schema { ⟦<Overlay<'a, Nothing> as FeatureView>⟧.schema view.now ≡ schema.now }
     requires marks { AreMarks schema.now }
-    requires features { AreThree schema.now (⟦<Overlay<'a, Nothing> as FeatureView>⟧.features view.now) }
+    requires features { AreThree schema.now (⟦<Overlay<'a, Nothing> as FeatureView>⟧.features
+        view.now) }
     requires counters { counters.now ≡ 3 ∷ [] }
 {
     for case in CASES.iter() {

@@ -16,7 +16,8 @@ use wfs_model::Change;
 
 /// Takes the memory for a change, where there is one.
 pub(crate) fn reserve(features: &mut Features, change: &Option<Change>) -> Mem<()>
-    ensures reserved { OnOk result (IfSome change.now (λ change. IsReserved change features.new.room)) }
+    ensures reserved { OnOk result (IfSome change.now
+        (λ change. IsReserved change features.new.room)) }
     ensures kept { features.new.kept ≡ features.old.kept }
     ensures schema { features.new.schema ≡ features.old.schema }
 {

@@ -49,7 +49,12 @@ impl Model for ServiceState {
 
     ghost coded = { Prim.hlevel (codes, filter_row.the_row.coded) };
 
-    ghost view = { λ s. record { schema = s.features.schema; state = state_of s.features.kept s.given s.last s.locks; room = s.features.room; table = s.locks } };
+    ghost view = { λ s. record {
+      schema = s.features.schema;
+      state = state_of s.features.kept s.given s.last s.locks;
+      room = s.features.room;
+      table = s.locks;
+    } };
 
     ghost invariant = { λ s. IsState s.features.schema s.features.kept s.given s.last s.locks };
 }
@@ -118,7 +123,8 @@ impl ServiceState {
     fn would_pass(&mut self, plan: &Plan, moment: u64, limits: &Limits) -> Mem<Option<FullAt>>
         requires { self.old.state.last ≤ moment }
         ensures passed { IfOk result (IsPassedBy limits.now self.old moment plan.now) }
-        ensures room { IfOk result (λ passed. passed ≡ None → HasRoom plan.now.lock self.new.table) }
+        ensures room { IfOk result (λ passed. passed ≡ None
+            → HasRoom plan.now.lock self.new.table) }
         ensures state { self.new.state ≡ self.old.state }
         ensures schema { self.new.schema ≡ self.old.schema }
     {

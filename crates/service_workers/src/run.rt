@@ -22,7 +22,9 @@ pub fn run_workers<
 >(rt: &R, alloc: Global, limit: Option<u32>, workers: &mut [Worker<S, A, C, G>])
 where
     A::Link: Send,
-    ensures { (i : ℕ) (d : _) → i < length workers.old → HasWorked S.Service A.accepting C.moments limit (slice_index_or workers.old i d) (slice_index_or workers.new i d) }
+    ensures { (i : ℕ) (d : _) → i < length workers.old
+        → HasWorked S.Service A.accepting C.moments limit (slice_index_or workers.old i d)
+        (slice_index_or workers.new i d) }
 {
     let threads = workers.len().max(1);
     thread::for_each_mut(rt, workers, threads, &|_, worker| worker.run(alloc, limit));

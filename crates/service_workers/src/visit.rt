@@ -27,7 +27,8 @@ pub fn serve_next<S: Service, A: Acceptor, C: Clock, G: Gate>(
     clock: &mut C,
     gate: &mut G,
 ) -> Next
-    ensures { IsNext S.Service (stand service.old (C.moments clock.old)) (A.accepting acceptor.old) result (stand service.new (C.moments clock.new)) (A.accepting acceptor.new) }
+    ensures { IsNext S.Service (stand service.old (C.moments clock.old)) (A.accepting acceptor.old)
+        result (stand service.new (C.moments clock.new)) (A.accepting acceptor.new) }
 {
     match acceptor.accept() {
         Ok(Some(mut link)) => {
@@ -48,7 +49,8 @@ fn visit<S: Service, L: Link, C: Clock, G: Gate>(
     clock: &mut C,
     gate: &mut G,
 ) -> Mem<SessionEnd>
-    ensures { IsVisit S.Service (stand service.old (C.moments clock.old)) (L.Source.source link.old) result (L.Source.source link.new) (stand service.new (C.moments clock.new)) }
+    ensures { IsVisit S.Service (stand service.old (C.moments clock.old)) (L.Source.source link.old)
+        result (L.Source.source link.new) (stand service.new (C.moments clock.new)) }
 {
     let mut reader = Reader::new(alloc)?;
     let mut buffer = Buffer::new(alloc)?;

@@ -24,7 +24,9 @@ pub fn work<S: Service, A: Acceptor, C: Clock, G: Gate>(
     clock: &mut C,
     gate: &mut G,
 ) -> WorkerEnd
-    ensures { IsWorked S.Service limit (stand service.old (C.moments clock.old)) (A.accepting acceptor.old) result (stand service.new (C.moments clock.new)) (A.accepting acceptor.new) }
+    ensures { IsWorked S.Service limit (stand service.old (C.moments clock.old))
+        (A.accepting acceptor.old) result (stand service.new (C.moments clock.new))
+        (A.accepting acceptor.new) }
 {
     let mut left = links_of(limit);
     while left > 0 {

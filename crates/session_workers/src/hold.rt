@@ -30,7 +30,8 @@ pub fn session<S: Service, L: Link, C: Clock, G: Gate>(
     buffer: &mut Buffer,
 ) -> SessionEnd
     requires fresh { reader.old ≡ [] }
-    ensures { IsSession S.Service (C.moments clock.old) service.old (L.Source.source link.old) result service.new (C.moments clock.new) (L.Source.source link.new) }
+    ensures { IsSession S.Service (C.moments clock.old) service.old (L.Source.source link.old)
+        result service.new (C.moments clock.new) (L.Source.source link.new) }
 {
     let mut left = MOST_MESSAGES;
     while left > 0 {

@@ -39,7 +39,8 @@ pub fn hold_round<S: Service, L: Link, C: Clock, G: Gate>(
     reader: &mut Reader,
     buffer: &mut Buffer,
 ) -> Round
-    ensures { IsRound S.Service is_last reader.old (L.Source.source link.old) (C.moments clock.old) service.old result reader.new (L.Source.source link.new) (C.moments clock.new) service.new }
+    ensures { IsRound S.Service is_last reader.old (L.Source.source link.old) (C.moments clock.old)
+        service.old result reader.new (L.Source.source link.new) (C.moments clock.new) service.new }
 {
     match reader.next_message(alloc, link) {
         Next::Message(message) => after_answer(answer(
@@ -79,7 +80,8 @@ fn answer<S: Service, O: Sink, C: Clock, G: Gate>(
     gate: &mut G,
     buffer: &mut Buffer,
 ) -> Result<bool, WriteFault>
-    ensures { Replies S.Service service.old message.now is_last (C.moments clock.old) (O.sink sink.old) result service.new (C.moments clock.new) (O.sink sink.new) }
+    ensures { Replies S.Service service.old message.now is_last (C.moments clock.old)
+        (O.sink sink.old) result service.new (C.moments clock.new) (O.sink sink.new) }
 {
     let moment = clock.now();
     let closes = is_closing(message, is_last);
@@ -103,7 +105,8 @@ fn give_answer<O: Sink>(
     sink: &mut O,
     buffer: &mut Buffer,
 ) -> Result<bool, WriteFault>
-    ensures { GivesAnswer result (O.sink sink.old) (answer_text answered.now schema.now closes) closes (O.sink sink.new) }
+    ensures { GivesAnswer result (O.sink sink.old) (answer_text answered.now schema.now closes)
+        closes (O.sink sink.new) }
 {
     put_answer(answered, schema, closes, sink, buffer)?;
     Ok(closes)
@@ -117,7 +120,8 @@ fn put_answer<O: Sink>(
     sink: &mut O,
     buffer: &mut Buffer,
 ) -> Result<(), WriteFault>
-    ensures { Gives result (O.sink sink.old) (answer_text answered.now schema.now closes) (O.sink sink.new) }
+    ensures { Gives result (O.sink sink.old) (answer_text answered.now schema.now closes)
+        (O.sink sink.new) }
 {
     match answered {
         Answered::Reply(reply) => put_buffered_reply(reply, schema, closes, sink, buffer),
@@ -135,7 +139,8 @@ fn put_buffered_reply<O: Sink>(
     sink: &mut O,
     buffer: &mut Buffer,
 ) -> Result<(), WriteFault>
-    ensures { Gives result (O.sink sink.old) (reply_text reply.now schema.now close) (O.sink sink.new) }
+    ensures { Gives result (O.sink sink.old) (reply_text reply.now schema.now close)
+        (O.sink sink.new) }
 {
     buffer.clear();
     let mut buffered = Buffered { sink, buffer };

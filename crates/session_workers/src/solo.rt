@@ -60,7 +60,8 @@ fn take_step<D: Disk>(
     requires change { IsChange request }
     requires of_schema { IsOfSchema store.old.schema request }
     requires texts { All (IsKeptText store.old.schema) (stored_in request) }
-    ensures answered { StoreAnswers D.moment D.since D.faults store.old message.now moment result store.new }
+    ensures answered { StoreAnswers D.moment D.since D.faults store.old message.now moment result
+        store.new }
     ensures steps { TakesSteps D.moment D.since D.faults store.old store.new }
 {
     answer_of(store.step(entry_of(message, moment, request)))
@@ -90,7 +91,8 @@ fn carry_out<D: Disk, G: Gate>(
     requires asked { asked message.now store.old.schema ≡ Ok request }
     requires of_schema { IsOfSchema store.old.schema request }
     requires texts { All (IsKeptText store.old.schema) (stored_in request) }
-    ensures answered { StoreAnswers D.moment D.since D.faults store.old message.now moment result store.new }
+    ensures answered { StoreAnswers D.moment D.since D.faults store.old message.now moment result
+        store.new }
     ensures steps { TakesSteps D.moment D.since D.faults store.old store.new }
 {
     if request.is_change() {
@@ -109,7 +111,8 @@ fn judge_asked<D: Disk, G: Gate>(
     moment: u64,
     gate: &mut G,
 ) -> Answered
-    ensures answered { StoreAnswers D.moment D.since D.faults store.old message.now moment result store.new }
+    ensures answered { StoreAnswers D.moment D.since D.faults store.old message.now moment result
+        store.new }
     ensures steps { TakesSteps D.moment D.since D.faults store.old store.new }
 {
     match read_asked(alloc, message, store.schema()) {
@@ -164,10 +167,14 @@ pub fn solo_session<L: Link, C: Clock, D: Disk>(
     buffer: &mut Buffer,
 ) -> SessionEnd
     requires fresh { reader.old ≡ [] }
-    ensures held { IsSession (store_meaning D.moment D.since D.faults) (C.moments clock.old) store.old (L.Source.source link.old) result store.new (C.moments clock.new) (L.Source.source link.new) }
+    ensures held { IsSession (store_meaning D.moment D.since D.faults) (C.moments clock.old)
+        store.old (L.Source.source link.old) result store.new (C.moments clock.new)
+        (L.Source.source link.new) }
     ensures becomes { StoreBecomes D.faults store.old store.new }
-    ensures tallies { TalliesAnswers D.moment D.since D.faults store.old (L.Source.source link.old) result store.new (C.moments clock.new) (L.Source.source link.new) }
-    ensures goes { Always D.moment D.since (SaysOnTheWay D.moment D.since D.faults store.old store.new) store.old.disks store.new.disks }
+    ensures tallies { TalliesAnswers D.moment D.since D.faults store.old (L.Source.source link.old)
+        result store.new (C.moments clock.new) (L.Source.source link.new) }
+    ensures goes { Always D.moment D.since (SaysOnTheWay D.moment D.since D.faults store.old
+        store.new) store.old.disks store.new.disks }
 {
     stands(store);
     session(alloc, store, link, clock, &mut NoGate, reader, buffer)

@@ -33,6 +33,8 @@ pub struct Publisher {
     ghost head_is: { head ≡ head_of seen.book },
     ghost names: { seen.names ≡ [] },
     ghost long: { length seen.log ≡ given + 1 },
-    ghost sound: { ForSome writer (λ w. Sound seen.log seen.book w.desk.shown.value (drop w.behind w.log.items) (view w.desk.place)) },
-    ghost alike: { ForSome other (λ f. ForSome writer (λ w. content_of f ≡ w.desk.shown.value.snapshot)) } by { Prim.hlevel (codes, filter_row.the_row.coded) },
+    ghost sound: { ForSome writer (λ w. Sound seen.log seen.book w.desk.shown.value
+        (drop w.behind w.log.items) (view w.desk.place)) },
+    ghost alike: { ForSome other (λ f. ForSome writer
+        (λ w. content_of f ≡ w.desk.shown.value.snapshot)) } by { Prim.hlevel (codes, filter_row.the_row.coded) },
 }

@@ -32,8 +32,10 @@ pub(crate) type Copies = Writer<Shown, Shown, Knows, Published>;
 
 // Publishes what waits, as often as it takes until that is absorbed.
 fn swap<R: Wait>(rt: &R, writer: Copies) -> Copies
-    requires { MayFollow writer.desk.shown.value (next_of writer.desk.shown.value (drop writer.behind writer.log.items)) }
-    ensures shown { result.desk.shown.value ≡ next_of writer.desk.shown.value (drop writer.behind writer.log.items) }
+    requires { MayFollow writer.desk.shown.value
+        (next_of writer.desk.shown.value (drop writer.behind writer.log.items)) }
+    ensures shown { result.desk.shown.value ≡ next_of writer.desk.shown.value
+        (drop writer.behind writer.log.items) }
     ensures none { drop result.behind result.log.items ≡ [] }
     ensures told { KnowsOf (view result.desk.place) writer.desk.shown.value.seen.book }
 {
@@ -55,11 +57,14 @@ fn put<R: Wait>(
     seen: &Seen<Pair, (), Law>,
     next: Shown,
 ) -> (Copies, bool)
-    requires sound { Sound seen.now.log seen.now.book writer.desk.shown.value (drop writer.behind writer.log.items) (view writer.desk.place) }
+    requires sound { Sound seen.now.log seen.now.book writer.desk.shown.value
+        (drop writer.behind writer.log.items) (view writer.desk.place) }
     requires ready { Ready seen.now.log seen.now.book next }
     requires up { writer.desk.shown.value.front ≤ next.front }
-    ensures sound { Sound seen.now.log seen.now.book result.0.desk.shown.value (drop result.0.behind result.0.log.items) (view result.0.desk.place) }
-    ensures shown { MatchBool result.1 (result.0.desk.shown.value ≡ next) (result.0.desk.shown.value ≡ writer.desk.shown.value) }
+    ensures sound { Sound seen.now.log seen.now.book result.0.desk.shown.value
+        (drop result.0.behind result.0.log.items) (view result.0.desk.place) }
+    ensures shown { MatchBool result.1 (result.0.desk.shown.value ≡ next)
+        (result.0.desk.shown.value ≡ writer.desk.shown.value) }
 {
     match writer.append(next) {
         Ok(()) => (swap(rt, writer), true),
@@ -69,8 +74,10 @@ fn put<R: Wait>(
 
 // Publishes the same once more, so that nothing else is shared.
 fn settle<R: Wait>(rt: &R, writer: Copies, seen: &Seen<Pair, (), Law>) -> Copies
-    requires { Sound seen.now.log seen.now.book writer.desk.shown.value (drop writer.behind writer.log.items) (view writer.desk.place) }
-    ensures sound { Sound seen.now.log seen.now.book result.desk.shown.value (drop result.behind result.log.items) (view result.desk.place) }
+    requires { Sound seen.now.log seen.now.book writer.desk.shown.value
+        (drop writer.behind writer.log.items) (view writer.desk.place) }
+    ensures sound { Sound seen.now.log seen.now.book result.desk.shown.value
+        (drop result.behind result.log.items) (view result.desk.place) }
     ensures shown { result.desk.shown.value ≡ writer.desk.shown.value }
 {
     swap(rt, writer)
@@ -86,12 +93,16 @@ fn show_same<R: Wait>(
     other: Features,
     front: u64,
 ) -> (Copies, Option<Features>)
-    requires sound { Sound seen.now.log seen.now.book writer.desk.shown.value (drop writer.behind writer.log.items) (view writer.desk.place) }
+    requires sound { Sound seen.now.log seen.now.book writer.desk.shown.value
+        (drop writer.behind writer.log.items) (view writer.desk.place) }
     requires given { Stands seen.now.log (pair front writer.desk.shown.value.snapshot) }
     requires up { writer.desk.shown.value.front ≤ front }
-    ensures sound { Sound seen.now.log seen.now.book result.0.desk.shown.value (drop result.0.behind result.0.log.items) (view result.0.desk.place) }
-    ensures shown { IfSome result.1 (λ f. (f ≡ other) × (pair_of result.0.desk.shown.value ≡ pair front writer.desk.shown.value.snapshot)) }
-    ensures either { (pair_of result.0.desk.shown.value ≡ pair_of writer.desk.shown.value) ⊎ (pair_of result.0.desk.shown.value ≡ pair front writer.desk.shown.value.snapshot) }
+    ensures sound { Sound seen.now.log seen.now.book result.0.desk.shown.value
+        (drop result.0.behind result.0.log.items) (view result.0.desk.place) }
+    ensures shown { IfSome result.1 (λ f. (f ≡ other)
+        × (pair_of result.0.desk.shown.value ≡ pair front writer.desk.shown.value.snapshot)) }
+    ensures either { (pair_of result.0.desk.shown.value ≡ pair_of writer.desk.shown.value)
+        ⊎ (pair_of result.0.desk.shown.value ≡ pair front writer.desk.shown.value.snapshot) }
 {
     let Ok(snapshot) = writer.published().snapshot.again() else {
         return (writer, None);
@@ -114,7 +125,10 @@ fn show_same<R: Wait>(
 fn changed_snapshot(alloc: Global, features: Features, change: &Change) -> Mem<Snapshot>
     requires playable { is_playable features.schema features.kept change.now ≡ true }
     requires queries { AreQueriesOf features.schema change.now }
-    ensures { IfOk result (λ s. s ≡ record { schema = features.schema; kept = played_one features.kept change.now }) }
+    ensures { IfOk result (λ s. s ≡ record {
+      schema = features.schema;
+      kept = played_one features.kept change.now;
+    }) }
 {
     Snapshot::of(alloc, changed(alloc, features, change)?)
 }
@@ -123,7 +137,8 @@ fn changed_snapshot(alloc: Global, features: Features, change: &Change) -> Mem<S
 fn caught_up(alloc: Global, before: Snapshot, change: &Change) -> Option<Features>
     requires playable { is_playable before.schema before.kept change.now ≡ true }
     requires queries { AreQueriesOf before.schema change.now }
-    ensures { IfSome result (λ f. content_of f ≡ record { schema = before.schema; kept = played_one before.kept change.now }) }
+    ensures { IfSome result (λ f. content_of f
+        ≡ record { schema = before.schema; kept = played_one before.kept change.now }) }
 {
     let features = before.into_features()?;
     changed(alloc, features, change).ok()
@@ -140,7 +155,8 @@ fn show_change<R: Wait>(
     change: &Change,
     now: &Features,
 ) -> (Copies, Option<Features>)
-    requires sound { Sound seen.now.log seen.now.book writer.desk.shown.value (drop writer.behind writer.log.items) (view writer.desk.place) }
+    requires sound { Sound seen.now.log seen.now.book writer.desk.shown.value
+        (drop writer.behind writer.log.items) (view writer.desk.place) }
     requires given { Stands seen.now.log (pair front (content_of now.now)) }
     requires schema { now.now.schema ≡ schema_in seen.now.log }
     requires up { writer.desk.shown.value.front ≤ front }
@@ -148,9 +164,12 @@ fn show_change<R: Wait>(
     requires playable { is_playable other.schema other.kept change.now ≡ true }
     requires queries { AreQueriesOf other.schema change.now }
     requires change { now.now.kept ≡ played_one other.kept change.now }
-    ensures sound { Sound seen.now.log seen.now.book result.0.desk.shown.value (drop result.0.behind result.0.log.items) (view result.0.desk.place) }
-    ensures shown { IfSome result.1 (λ f. (content_of f ≡ content_of now.now) × (pair_of result.0.desk.shown.value ≡ pair front (content_of now.now))) }
-    ensures either { (pair_of result.0.desk.shown.value ≡ pair_of writer.desk.shown.value) ⊎ (pair_of result.0.desk.shown.value ≡ pair front (content_of now.now)) }
+    ensures sound { Sound seen.now.log seen.now.book result.0.desk.shown.value
+        (drop result.0.behind result.0.log.items) (view result.0.desk.place) }
+    ensures shown { IfSome result.1 (λ f. (content_of f ≡ content_of now.now)
+        × (pair_of result.0.desk.shown.value ≡ pair front (content_of now.now))) }
+    ensures either { (pair_of result.0.desk.shown.value ≡ pair_of writer.desk.shown.value)
+        ⊎ (pair_of result.0.desk.shown.value ≡ pair front (content_of now.now)) }
 {
     let Ok(before) = writer.published().snapshot.again() else {
         return (writer, None);
@@ -186,13 +205,17 @@ fn show_whole<R: Wait>(
     front: u64,
     now: &Features,
 ) -> (Copies, Option<Features>)
-    requires sound { Sound seen.now.log seen.now.book writer.desk.shown.value (drop writer.behind writer.log.items) (view writer.desk.place) }
+    requires sound { Sound seen.now.log seen.now.book writer.desk.shown.value
+        (drop writer.behind writer.log.items) (view writer.desk.place) }
     requires given { Stands seen.now.log (pair front (content_of now.now)) }
     requires schema { now.now.schema ≡ schema_in seen.now.log }
     requires up { writer.desk.shown.value.front ≤ front }
-    ensures sound { Sound seen.now.log seen.now.book result.0.desk.shown.value (drop result.0.behind result.0.log.items) (view result.0.desk.place) }
-    ensures shown { IfSome result.1 (λ f. (content_of f ≡ content_of now.now) × (pair_of result.0.desk.shown.value ≡ pair front (content_of now.now))) }
-    ensures either { (pair_of result.0.desk.shown.value ≡ pair_of writer.desk.shown.value) ⊎ (pair_of result.0.desk.shown.value ≡ pair front (content_of now.now)) }
+    ensures sound { Sound seen.now.log seen.now.book result.0.desk.shown.value
+        (drop result.0.behind result.0.log.items) (view result.0.desk.place) }
+    ensures shown { IfSome result.1 (λ f. (content_of f ≡ content_of now.now)
+        × (pair_of result.0.desk.shown.value ≡ pair front (content_of now.now))) }
+    ensures either { (pair_of result.0.desk.shown.value ≡ pair_of writer.desk.shown.value)
+        ⊎ (pair_of result.0.desk.shown.value ≡ pair front (content_of now.now)) }
 {
     let Ok(snapshot) = whole_snapshot(alloc, now) else {
         return (writer, None);
@@ -228,15 +251,20 @@ pub(crate) fn show<R: Wait>(
     change: Option<&Change>,
     now: &Features,
 ) -> (Copies, Option<Features>)
-    requires sound { Sound seen.now.log seen.now.book writer.desk.shown.value (drop writer.behind writer.log.items) (view writer.desk.place) }
+    requires sound { Sound seen.now.log seen.now.book writer.desk.shown.value
+        (drop writer.behind writer.log.items) (view writer.desk.place) }
     requires given { Stands seen.now.log (pair front (content_of now.now)) }
     requires schema { now.now.schema ≡ schema_in seen.now.log }
     requires up { writer.desk.shown.value.front ≤ front }
     requires alike { ForSome other (λ f. content_of f ≡ writer.desk.shown.value.snapshot) }
-    requires change { IsSome other → Follows (option_copied change) writer.desk.shown.value.snapshot now.now }
-    ensures sound { Sound seen.now.log seen.now.book result.0.desk.shown.value (drop result.0.behind result.0.log.items) (view result.0.desk.place) }
-    ensures shown { IfSome result.1 (λ f. (content_of f ≡ content_of now.now) × (pair_of result.0.desk.shown.value ≡ pair front (content_of now.now))) }
-    ensures either { (pair_of result.0.desk.shown.value ≡ pair_of writer.desk.shown.value) ⊎ (pair_of result.0.desk.shown.value ≡ pair front (content_of now.now)) }
+    requires change { IsSome other → Follows (option_copied change) writer.desk.shown.value.snapshot
+        now.now }
+    ensures sound { Sound seen.now.log seen.now.book result.0.desk.shown.value
+        (drop result.0.behind result.0.log.items) (view result.0.desk.place) }
+    ensures shown { IfSome result.1 (λ f. (content_of f ≡ content_of now.now)
+        × (pair_of result.0.desk.shown.value ≡ pair front (content_of now.now))) }
+    ensures either { (pair_of result.0.desk.shown.value ≡ pair_of writer.desk.shown.value)
+        ⊎ (pair_of result.0.desk.shown.value ≡ pair front (content_of now.now)) }
 {
     let Some(other) = other else {
         return show_whole(rt, alloc, writer, seen, front, now);
@@ -281,7 +309,8 @@ pub(crate) fn make_viewer(writer: &mut Copies, seen: &Seen<Pair, (), Law>) -> Op
     requires some { 0 < length seen.now.log }
     requires told { KnowsOf (view writer.old.desk.place) seen.now.book }
     ensures shown { writer.new.desk.shown.value ≡ writer.old.desk.shown.value }
-    ensures waiting { drop writer.new.behind writer.new.log.items ≡ drop writer.old.behind writer.old.log.items }
+    ensures waiting { drop writer.new.behind writer.new.log.items
+        ≡ drop writer.old.behind writer.old.log.items }
     ensures view { view writer.new.desk.place ≡ view writer.old.desk.place }
     ensures viewer { IfSome result (IsNew seen.now.book (schema_in seen.now.log)) }
 {

@@ -49,7 +49,8 @@ fn play<R: Wait>(
     requires next { front ≡ length (given_of publisher.old) }
     requires schema { features.old.schema ≡ schema_in (given_of publisher.old) }
     requires queries { AreQueriesOf features.old.schema change }
-    requires alike { IsAbreast publisher.old → content_of features.old ≡ (shown_of publisher.old).content }
+    requires alike { IsAbreast publisher.old → content_of features.old
+        ≡ (shown_of publisher.old).content }
 {
     if !features.accepts(alloc, &change)? {
         return Err(OutOfMemory);
@@ -71,7 +72,8 @@ fn told<R: Wait>(
 ) -> Mem<[Found; 3]>
     requires next { length (given_of publisher.old) ≡ 1 }
     requires schema { features.old.schema ≡ schema_in (given_of publisher.old) }
-    requires alike { IsAbreast publisher.old → content_of features.old ≡ (shown_of publisher.old).content }
+    requires alike { IsAbreast publisher.old → content_of features.old
+        ≡ (shown_of publisher.old).content }
     requires read { IsChange request.now → ⊥ }
 {
     let before = look(alloc, viewer, request)?;
@@ -92,7 +94,8 @@ fn told_to_last<R: Wait>(
 ) -> Mem<[Found; 3]>
     requires next { length (given_of publisher.old) ≡ 1 }
     requires schema { features.old.schema ≡ schema_in (given_of publisher.old) }
-    requires alike { IsAbreast publisher.old → content_of features.old ≡ (shown_of publisher.old).content }
+    requires alike { IsAbreast publisher.old → content_of features.old
+        ≡ (shown_of publisher.old).content }
 {
     let request = count(alloc)?;
     let mut viewers = viewers;

@@ -30,7 +30,8 @@ fn meets_rings(a: Pos, b: Pos, area: &Polygon) -> bool
 
 /// Whether the segment from `a` to `b` meets an edge of one of the holes.
 fn meets_holes(a: Pos, b: Pos, holes: &[Ring]) -> bool
-    ensures { result ≡ list_any (λ hole. meets_some (record { from = a; to = b }) (edges hole)) holes.now }
+    ensures { result ≡ list_any (λ hole. meets_some (record { from = a; to = b }) (edges hole))
+        holes.now }
 {
     holes.iter().any(|hole| meets_path(a, b, hole.positions()))
 }
@@ -78,7 +79,8 @@ fn do_rings_meet(area: &Polygon, other: &Geometry) -> bool
 
 /// Whether an edge of one of the holes meets a segment of the geometry.
 fn do_holes_meet(holes: &[Ring], other: &Geometry) -> bool
-    ensures { result ≡ list_any (λ hole. do_any_meet (edges hole) (segments_of other.now)) holes.now }
+    ensures { result ≡ list_any (λ hole. do_any_meet (edges hole) (segments_of other.now))
+        holes.now }
 {
     holes
         .iter()

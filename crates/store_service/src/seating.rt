@@ -51,9 +51,11 @@ pub(crate) fn sit_down<'a, R: Wait, A, C, G, D: Disk>(
     requires opening { All (IsOfOpening schema.now) (map past seats.old.items) }
     requires order { AreInOrder (map past seats.old.items) }
     requires as_many { (length slots.items ≡ length seats.old.items) × (length slots.items ≤ 16) }
-    requires views { (length viewers.old.items ≡ length seats.old.items) × HaveViews schema.now (map past seats.old.items) viewers.old.items }
+    requires views { (length viewers.old.items ≡ length seats.old.items)
+        × HaveViews schema.now (map past seats.old.items) viewers.old.items }
     requires room { (workers.old.items ≡ []) × (length slots.items ≤ vec_capacity workers.old) }
-    ensures workers { workers.new.items ≡ workers_at (name_of turnstile.now) schema.now slots.items (map past seats.old.items) }
+    ensures workers { workers.new.items ≡ workers_at (name_of turnstile.now) schema.now slots.items
+        (map past seats.old.items) }
     ensures seats { seats.new.items ≡ [] }
     ensures viewers { viewers.new.items ≡ [] }
     ensures room { vec_capacity seats.old ≤ vec_capacity seats.new }
@@ -102,12 +104,17 @@ pub(crate) fn stand_up<'a, R: Wait, A, C, G, D: Disk>(
 )
     requires ended { All (λ worker. IsSome worker.end) workers.items }
     requires seats_room { (seats.old.items ≡ []) × (length workers.items ≤ vec_capacity seats.old) }
-    requires views_room { (viewers.old.items ≡ []) × (length workers.items ≤ vec_capacity viewers.old) }
+    requires views_room { (viewers.old.items ≡ [])
+        × (length workers.items ≤ vec_capacity viewers.old) }
     requires ended_room { (ended.old.items ≡ []) × (length workers.items ≤ vec_capacity ended.old) }
-    ensures own { (name : TableId) → All (λ worker. worker.service.name ≡ name) workers.entry.items → All (IsFreeAt name) seats.new.items }
-    ensures seats { map past seats.new.items ≡ map (λ worker. worker.service.past) workers.entry.items }
-    ensures views { (first : KeptStore D) → All (λ worker. worker.service.past.origin ≡ first ∷ []) workers.entry.items → All (IsViewerAt first) viewers.new.items }
-    ensures found { map pairs_of viewers.new.items ≡ map (λ worker. worker.service.found) workers.entry.items }
+    ensures own { (name : TableId) → All (λ worker. worker.service.name ≡ name) workers.entry.items
+        → All (IsFreeAt name) seats.new.items }
+    ensures seats { map past seats.new.items ≡ map (λ worker. worker.service.past)
+        workers.entry.items }
+    ensures views { (first : KeptStore D) → All (λ worker. worker.service.past.origin ≡ first ∷ [])
+        workers.entry.items → All (IsViewerAt first) viewers.new.items }
+    ensures found { map pairs_of viewers.new.items
+        ≡ map (λ worker. worker.service.found) workers.entry.items }
     ensures left { AllZip HasLeft workers.entry.items ended.new.items }
 {
     let mut sitting = workers;

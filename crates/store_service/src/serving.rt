@@ -53,8 +53,10 @@ where
     requires slots { (0 < length slots.items) × (length slots.items ≤ 16) }
     requires schema { store.schema ≡ schema.now }
     requires fresh { (store.entries ≡ []) × (store.tally ≡ replicate 17 0) }
-    ensures ran { IfRan result (λ after ended. RunFits A.accepting C.moments limit D.faults store slots.items after ended) }
-    ensures stands { IfRan result (λ after ended. EveryBoth D.images (SaysWith after.schema (kept_of after) after.begun) after.disks) }
+    ensures ran { IfRan result (λ after ended. RunFits A.accepting C.moments limit D.faults store
+        slots.items after ended) }
+    ensures stands { IfRan result (λ after ended. EveryBoth D.images
+        (SaysWith after.schema (kept_of after) after.begun) after.disks) }
     ensures kept { IfNoMemory result (λ back same. (back ≡ store) × (same ≡ slots.items)) }
 {
     let many = slots.len();
@@ -151,13 +153,17 @@ where
     requires opening { All (IsOfOpening schema.now) (map past seats.old.items) }
     requires order { AreInOrder (map past seats.old.items) }
     requires as_many { (length slots.items ≡ length seats.old.items) × (length slots.items ≤ 16) }
-    requires views { (length viewers.old.items ≡ length seats.old.items) × HaveViews schema.now (map past seats.old.items) viewers.old.items }
+    requires views { (length viewers.old.items ≡ length seats.old.items)
+        × HaveViews schema.now (map past seats.old.items) viewers.old.items }
     requires workers_room { (workers.items ≡ []) × (length slots.items ≤ vec_capacity workers) }
     requires ended_room { (ended.old.items ≡ []) × (length slots.items ≤ vec_capacity ended.old) }
     requires seats_room { length slots.items ≤ vec_capacity seats.old }
     ensures own { All (IsFreeAt (name_of turnstile.now)) seats.new.items }
-    ensures worked { HaveWorked A.accepting C.moments limit (name_of turnstile.now) schema.now slots.items (map past seats.old.items) ended.new.items (map past seats.new.items) (map pairs_of viewers.new.items) }
-    ensures views { (first : KeptStore D) → All (λ p. p.origin ≡ first ∷ []) (map past seats.old.items) → All (IsViewerAt first) viewers.new.items }
+    ensures worked { HaveWorked A.accepting C.moments limit (name_of turnstile.now) schema.now
+        slots.items (map past seats.old.items) ended.new.items (map past seats.new.items)
+        (map pairs_of viewers.new.items) }
+    ensures views { (first : KeptStore D) → All (λ p. p.origin ≡ first ∷ [])
+        (map past seats.old.items) → All (IsViewerAt first) viewers.new.items }
 {
     let mut workers = workers;
     sit_down(rt, turnstile, schema, slots, seats, viewers, &mut workers);

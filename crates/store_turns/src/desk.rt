@@ -51,9 +51,16 @@ where
 
     ghost coded = { Prim.hlevel (codes, filter_row.the_row.coded, D.code) };
 
-    ghost view = { λ d. record { name = name_of d.turnstile.now; schema = d.schema.now; past = past d.seat; found = pairs_of d.viewer } };
+    ghost view = { λ d. record {
+      name = name_of d.turnstile.now;
+      schema = d.schema.now;
+      past = past d.seat;
+      found = pairs_of d.viewer;
+    } };
 
-    ghost invariant = { λ d. (turnstile_of d.seat ≡ name_of d.turnstile.now) × IsFree d.seat × ((past d.seat).number ≡ d.number) × IsOfOpening d.schema.now (past d.seat) × HasViewer d.schema.now (past d.seat) d.viewer };
+    ghost invariant = { λ d. (turnstile_of d.seat ≡ name_of d.turnstile.now) × IsFree d.seat
+        × ((past d.seat).number ≡ d.number) × IsOfOpening d.schema.now (past d.seat)
+        × HasViewer d.schema.now (past d.seat) d.viewer };
 }
 
 impl<'a, R: Wait, D: Disk> Desk<'a, R, D> {
@@ -71,7 +78,12 @@ impl<'a, R: Wait, D: Disk> Desk<'a, R, D> {
         requires number { (past seat).number ≡ number }
         requires opening { IsOfOpening schema.now (past seat) }
         requires viewer { HasViewer schema.now (past seat) viewer }
-        ensures { result ≡ record { name = name_of turnstile.now; schema = schema.now; past = past seat; found = pairs_of viewer } }
+        ensures { result ≡ record {
+          name = name_of turnstile.now;
+          schema = schema.now;
+          past = past seat;
+          found = pairs_of viewer;
+        } }
     {
         Desk {
             rt,

@@ -25,7 +25,8 @@ pub fn step_in_turn<D: Disk>(counter: &mut Counter<D>, entry: Entry) -> Result<R
     requires fitting { IsOfSchema counter.old.store.schema entry.request }
     requires texts { All (IsKeptText counter.old.store.schema) (stored_in entry.request) }
     requires seat { entry.seat ≤ 16 }
-    ensures step { IsStepOf D.moment D.since D.faults counter.old.store entry result counter.new.store }
+    ensures step { IsStepOf D.moment D.since D.faults counter.old.store entry result
+        counter.new.store }
     ensures turn { IsOneOf D.faults counter.old.store entry.seat counter.new.store }
     ensures publisher { counter.new.publisher ≡ counter.old.publisher }
     ensures owes { OnOk result (Owes counter.new) }

@@ -79,7 +79,8 @@ pub(crate) fn carry_out<R: Wait, D: Disk, G: Gate>(
     ensures own { turnstile_of seat.new ≡ turnstile_of seat.old }
     ensures free { IsFree seat.new }
     ensures viewer { HasViewer schema.now (past seat.new) viewer.new }
-    ensures answers { AnswersBy (past seat.old) (pairs_of viewer.old) message.now moment result (past seat.new) (pairs_of viewer.new) }
+    ensures answers { AnswersBy (past seat.old) (pairs_of viewer.old) message.now moment result
+        (past seat.new) (pairs_of viewer.new) }
     ensures knows { KnowsMore (past seat.old) (past seat.new) }
     ensures found { IsPrefix (pairs_of viewer.old) (pairs_of viewer.new) }
 {
@@ -120,7 +121,8 @@ fn take_step<R: Wait, D: Disk, G: Gate>(
     ensures own { turnstile_of seat.new ≡ turnstile_of seat.old }
     ensures free { IsFree seat.new }
     ensures viewer { HasViewer _schema.now (past seat.new) viewer.new }
-    ensures answers { AnswersBy (past seat.old) (pairs_of viewer.old) message.now moment result (past seat.new) (pairs_of viewer.new) }
+    ensures answers { AnswersBy (past seat.old) (pairs_of viewer.old) message.now moment result
+        (past seat.new) (pairs_of viewer.new) }
     ensures knows { KnowsMore (past seat.old) (past seat.new) }
     ensures found { pairs_of viewer.new ≡ pairs_of viewer.old }
 {
@@ -157,9 +159,11 @@ fn publish_and_pass<R: Wait, D: Disk>(
     requires viewer { IsViewerAt turn.value viewer.old }
     ensures own { turnstile_of seat.new ≡ turnstile_of seat.old }
     ensures free { IsFree seat.new }
-    ensures seat { past seat.new ≡ having_left (past seat.old) turn.value.store (past seat.new).shown }
+    ensures seat { past seat.new ≡ having_left (past seat.old) turn.value.store
+        (past seat.new).shown }
     ensures at { IsViewerAt turn.value viewer.new }
-    ensures schema { (schema : SchemaFacts) → IsViewerOf schema viewer.old → IsViewerOf schema viewer.new }
+    ensures schema { (schema : SchemaFacts) → IsViewerOf schema viewer.old
+        → IsViewerOf schema viewer.new }
     ensures found { pairs_of viewer.new ≡ pairs_of viewer.old }
     ensures known { AreOf turn.value.store (pairs_of viewer.new) }
 {
@@ -194,7 +198,8 @@ fn look_up<R: Wait, D: Disk, G: Gate>(
     ensures own { turnstile_of seat.new ≡ turnstile_of seat.old }
     ensures free { IsFree seat.new }
     ensures viewer { HasViewer schema.now (past seat.new) viewer.new }
-    ensures answers { AnswersBy (past seat.old) (pairs_of viewer.old) message.now moment result (past seat.new) (pairs_of viewer.new) }
+    ensures answers { AnswersBy (past seat.old) (pairs_of viewer.old) message.now moment result
+        (past seat.new) (pairs_of viewer.new) }
     ensures knows { KnowsMore (past seat.old) (past seat.new) }
     ensures found { IsPrefix (pairs_of viewer.old) (pairs_of viewer.new) }
 {
@@ -228,7 +233,8 @@ fn look_up_in_turn<R: Wait, D: Disk, G: Gate>(
     ensures own { turnstile_of seat.new ≡ turnstile_of seat.old }
     ensures free { IsFree seat.new }
     ensures viewer { HasViewer _schema.now (past seat.new) viewer.new }
-    ensures answers { ReadsInTurn (past seat.old) _message.now moment result (past seat.new) (pairs_of viewer.new) }
+    ensures answers { ReadsInTurn (past seat.old) _message.now moment result (past seat.new)
+        (pairs_of viewer.new) }
     ensures knows { KnowsMore (past seat.old) (past seat.new) }
     ensures found { pairs_of viewer.new ≡ pairs_of viewer.old }
 {

@@ -44,7 +44,8 @@ pub(crate) fn look_up_published<D: Disk>(
     ensures viewer { HasViewer schema.now (past seat.new) viewer.new }
     ensures looked { HasLooked (past seat.old) (past seat.new) }
     ensures one { FindsOne (pairs_of viewer.old) (pairs_of viewer.new) }
-    ensures answers { IfSome result (λ answer. AnswersBy (past seat.old) (pairs_of viewer.old) message.now moment answer (past seat.new) (pairs_of viewer.new)) }
+    ensures answers { IfSome result (λ answer. AnswersBy (past seat.old) (pairs_of viewer.old)
+        message.now moment answer (past seat.new) (pairs_of viewer.new)) }
 {
     match viewer {
         Some(viewer) => {
@@ -75,7 +76,8 @@ fn read_published<D: Disk>(
     ensures viewer { IsSame viewer.old viewer.new }
     ensures looked { HasLooked (past seat.old) (past seat.new) }
     ensures one { FindsOne (entered_of viewer.old) (entered_of viewer.new) }
-    ensures answers { IfSome result (λ answer. AnswersBy (past seat.old) (entered_of viewer.old) _message.now moment answer (past seat.new) (entered_of viewer.new)) }
+    ensures answers { IfSome result (λ answer. AnswersBy (past seat.old) (entered_of viewer.old)
+        _message.now moment answer (past seat.new) (entered_of viewer.new)) }
 {
     viewer.tell(seat.front());
     match viewer.read(alloc, moment, request) {
@@ -96,7 +98,8 @@ fn answer_shown<D: Disk>(
     ensures own { turnstile_of seat.new ≡ turnstile_of seat.old }
     ensures stage { stage seat.new ≡ stage seat.old }
     ensures looked { past seat.new ≡ saw (past seat.old) (past seat.new).shown }
-    ensures answer { IfSome result (λ answer. (answer ≡ answered.Reply reply) × (front ≤ (past seat.new).shown)) }
+    ensures answer { IfSome result (λ answer. (answer ≡ answered.Reply reply)
+        × (front ≤ (past seat.new).shown)) }
 {
     if front <= desk.look(seat) {
         Some(Answered::Reply(reply))

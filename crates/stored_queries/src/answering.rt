@@ -95,7 +95,8 @@ fn shown<V: FeatureView>(
     asked: &[Asked],
     ids: &[Rid],
 ) -> Mem<Reply>
-    ensures { IfOk result (λ reply. reply ≡ shown (V.features view.now) moment present.now asked.now ids.now) }
+    ensures { IfOk result (λ reply. reply ≡ shown (V.features view.now) moment present.now asked.now
+        ids.now) }
 {
     if is_for_one(present, asked) {
         let found = held(alloc, view, ids)?;
@@ -115,7 +116,8 @@ fn features_answered<V: FeatureView>(
     present: &Present,
     asked: &[Asked],
 ) -> Mem<Reply>
-    ensures { IfOk result (λ reply. reply ≡ read schema.now (kept_with (V.features view.now) stored.now) moment (GetFeatures present.now asked.now)) }
+    ensures { IfOk result (λ reply. reply ≡ read schema.now
+        (kept_with (V.features view.now) stored.now) moment (GetFeatures present.now asked.now)) }
 {
     match select_asked(alloc, view, stored, schema, asked) {
         Ok(ids) => shown(alloc, view, moment, present, asked, ids.items()),
@@ -151,7 +153,8 @@ fn property_or(
     kind: Option<u32>,
     name: &str,
 ) -> Mem<Result<u32, Refusal>>
-    ensures { IfOk result (λ found. found ≡ property_or name.now (option_map (λ p. p.0) (property_in (type_in schema.now kind) name.now))) }
+    ensures { IfOk result (λ found. found ≡ property_or name.now
+        (option_map (λ p. p.0) (property_in (type_in schema.now kind) name.now))) }
 {
     match property_in(type_in(schema, kind), name) {
         None => Ok(Err(no_such_property(alloc, name)?)),
@@ -189,7 +192,8 @@ fn valued<V: FeatureView>(
     property: u32,
     queries: &[Meant],
 ) -> Mem<Reply>
-    ensures { IfOk result (λ reply. reply ≡ valued schema.now (V.features view.now) moment present.now asked.now property (all_meant queries.now)) }
+    ensures { IfOk result (λ reply. reply ≡ valued schema.now (V.features view.now) moment
+        present.now asked.now property (all_meant queries.now)) }
 {
     let kind = first_kind(queries);
     match property_asked(alloc, schema, asked, property, kind)? {
@@ -213,7 +217,9 @@ fn values_answered<V: FeatureView>(
     asked: &Asked,
     property: u32,
 ) -> Mem<Reply>
-    ensures { IfOk result (λ reply. reply ≡ read schema.now (kept_with (V.features view.now) stored.now) moment (GetValues present.now asked.now property)) }
+    ensures { IfOk result (λ reply. reply ≡ read schema.now
+        (kept_with (V.features view.now) stored.now) moment
+        (GetValues present.now asked.now property)) }
 {
     match expand_one(alloc, stored, asked, schema) {
         Ok(queries) => valued(
@@ -232,7 +238,8 @@ fn answered<V: FeatureView>(
     moment: u64,
     request: &Request,
 ) -> Mem<Reply>
-    ensures { IfOk result (λ reply. reply ≡ read schema.now (kept_with (V.features view.now) stored.now) moment request.now) }
+    ensures { IfOk result (λ reply. reply ≡ read schema.now
+        (kept_with (V.features view.now) stored.now) moment request.now) }
 {
     match request {
         Request::DescribeTypes(kinds) => {
@@ -275,7 +282,8 @@ pub fn answer<V: FeatureView>(
 ) -> Mem<Reply>
     requires read { IsChange request.now → ⊥ }
     requires schema { V.schema view.now ≡ schema.now }
-    ensures { IfOk result (IsAnswer schema.now (V.features view.now) stored.now.list moment request.now) }
+    ensures { IfOk result (IsAnswer schema.now (V.features view.now) stored.now.list moment
+        request.now) }
 {
     answered(alloc, view, stored.list(), schema, moment, request)
 }

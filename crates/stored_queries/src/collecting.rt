@@ -15,7 +15,8 @@ use wfs_model::{Present, Reply};
 
 /// Adds a copy of a feature, where there is one.
 fn add_copy(alloc: Global, found: &mut Vec<Feature>, feature: Option<&Feature>) -> Mem<()>
-    ensures { OnOk result (found.new.items ≡ found.old.items ++ to_list (option_copied feature.entry)) }
+    ensures { OnOk result (found.new.items ≡ found.old.items
+        ++ to_list (option_copied feature.entry)) }
 {
     if let Some(feature) = feature {
         found.push(feature.copy(alloc)?)?;
@@ -58,7 +59,8 @@ pub fn presented<V: FeatureView>(
     present: &Present,
     ids: &[Rid],
 ) -> Mem<Reply>
-    ensures { IfOk result (λ reply. reply ≡ presented (V.features view.now) moment present.now ids.now) }
+    ensures { IfOk result (λ reply. reply ≡ presented (V.features view.now) moment present.now
+        ids.now) }
 {
     let matched = ids.len() as u64;
     if present.hits {

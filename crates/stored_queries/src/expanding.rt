@@ -59,7 +59,8 @@ pub fn expand(
     asked: &Asked,
     schema: &Schema,
 ) -> Result<List<Query>, StoredFault>
-    ensures { GivesBut OutOfMemory (λ queries. queries) result (expanded schema.now stored.now.list asked.now) }
+    ensures { GivesBut OutOfMemory (λ queries. queries) result
+        (expanded schema.now stored.now.list asked.now) }
 {
     match asked {
         Asked::Plain(query) => Ok(copied(alloc, query)?),
@@ -100,7 +101,8 @@ fn add_expanded<'a>(
     all: &mut Vec<Meant<'a>>,
     one: &'a Asked,
 ) -> Result<(), StoredFault>
-    ensures { GivesBut OutOfMemory (λ _. all_meant all.new.items) result (with_more (all_meant all.old.items) (expanded schema.now stored.now one.now)) }
+    ensures { GivesBut OutOfMemory (λ _. all_meant all.new.items) result
+        (with_more (all_meant all.old.items) (expanded schema.now stored.now one.now)) }
 {
     match one {
         Asked::Plain(query) => add_plain(all, query)?,
@@ -120,7 +122,8 @@ pub fn expand_one<'a>(
     asked: &'a Asked,
     schema: &Schema,
 ) -> Result<Vec<Meant<'a>>, StoredFault>
-    ensures { GivesBut OutOfMemory (λ v. all_meant v.items) result (expanded schema.now stored.now asked.now) }
+    ensures { GivesBut OutOfMemory (λ v. all_meant v.items) result
+        (expanded schema.now stored.now asked.now) }
 {
     let mut all = Vec::new(alloc);
     add_expanded(alloc, stored, schema, &mut all, asked)?;
@@ -134,7 +137,8 @@ pub fn expand_all<'a>(
     asked: &'a [Asked],
     schema: &Schema,
 ) -> Result<Vec<Meant<'a>>, StoredFault>
-    ensures { GivesBut OutOfMemory (λ v. all_meant v.items) result (all_expanded schema.now stored.now asked.now) }
+    ensures { GivesBut OutOfMemory (λ v. all_meant v.items) result
+        (all_expanded schema.now stored.now asked.now) }
 {
     let mut all = Vec::new(alloc);
     for one in asked {

@@ -84,7 +84,8 @@ fn filled_filter(
     texts: &[Text],
     filter: &Filter,
 ) -> Mem<Filter>
-    ensures { IfOk result (λ f. f ≡ filled_filter schema.now (option_copied of_type.entry) texts.now filter.now) }
+    ensures { IfOk result (λ f. f ≡ filled_filter schema.now (option_copied of_type.entry) texts.now
+        filter.now) }
 {
     match filter {
         Filter::Both(parts) => Ok(Filter::Both(filled_parts(
@@ -144,7 +145,8 @@ fn filled_parts(
     texts: &[Text],
     parts: &List<Filter>,
 ) -> Mem<List<Filter>>
-    ensures { IfOk result (λ all. all ≡ map (filled_filter schema.now (option_copied of_type.entry) texts.now) parts.now) }
+    ensures { IfOk result (λ all. all ≡ map (filled_filter schema.now (option_copied of_type.entry)
+        texts.now) parts.now) }
 {
     let mut all = Vec::new(alloc);
     for part in parts.items() {
@@ -161,7 +163,8 @@ fn filled_if(
     texts: &[Text],
     filter: &Option<Filter>,
 ) -> Mem<Option<Filter>>
-    ensures { IfOk result (λ f. f ≡ option_map (filled_filter schema.now (option_copied of_type.entry) texts.now) filter.now) }
+    ensures { IfOk result (λ f. f ≡ option_map
+        (filled_filter schema.now (option_copied of_type.entry) texts.now) filter.now) }
 {
     match filter {
         None => Ok(None),

@@ -54,7 +54,8 @@ fn first_stray<'a>(names: &[Text], given: &'a [(Text, Text)]) -> Option<&'a (Tex
 }
 
 fn no_stray(alloc: Global, names: &[Text], given: &[(Text, Text)]) -> Result<(), StoredFault>
-    ensures { GivesBut OutOfMemory (λ u. u) result (no_stray (find (is_stray names.now) given.now)) }
+    ensures { GivesBut OutOfMemory (λ u. u) result
+        (no_stray (find (is_stray names.now) given.now)) }
 {
     match first_stray(names, given) {
         None => Ok(()),
@@ -78,7 +79,8 @@ fn add_text(
     name: &Text,
     text: Option<&Text>,
 ) -> Result<(), StoredFault>
-    ensures { GivesBut OutOfMemory (λ _. texts.new.items) result (with_text schema.now queries.now texts.old.items name.now (option_copied text.entry)) }
+    ensures { GivesBut OutOfMemory (λ _. texts.new.items) result
+        (with_text schema.now queries.now texts.old.items name.now (option_copied text.entry)) }
 {
     let Some(text) = text else {
         return Err(StoredFault::MissingParameter(name.copy(alloc)?));
@@ -98,7 +100,8 @@ fn add_given(
     name: &Text,
     given: &[(Text, Text)],
 ) -> Result<(), StoredFault>
-    ensures { GivesBut OutOfMemory (λ _. texts.new.items) result (with_text schema.now queries.now texts.old.items name.now (given_for given.now name.now)) }
+    ensures { GivesBut OutOfMemory (λ _. texts.new.items) result
+        (with_text schema.now queries.now texts.old.items name.now (given_for given.now name.now)) }
 {
     add_text(
         alloc,
@@ -118,7 +121,9 @@ fn declared(
     names: &[Text],
     given: &[(Text, Text)],
 ) -> Result<Vec<Text>, StoredFault>
-    ensures { GivesBut OutOfMemory (λ v. v.items) result (each (λ texts name. with_text schema.now queries.now texts name (given_for given.now name)) [] names.now) }
+    ensures { GivesBut OutOfMemory (λ v. v.items) result
+        (each (λ texts name. with_text schema.now queries.now texts name (given_for given.now name))
+        [] names.now) }
 {
     let mut texts = Vec::new(alloc);
     for name in names {
@@ -136,7 +141,8 @@ pub(crate) fn texts_for(
     query: &StoredQuery,
     given: &[(Text, Text)],
 ) -> Result<Vec<Text>, StoredFault>
-    ensures { GivesBut OutOfMemory (λ v. v.items) result (texts_for schema.now query.now given.now) }
+    ensures { GivesBut OutOfMemory (λ v. v.items) result
+        (texts_for schema.now query.now given.now) }
 {
     let names = query.parameters.items();
     let texts = declared(alloc, schema, query.queries.items(), names, given)?;

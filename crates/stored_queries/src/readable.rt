@@ -72,7 +72,8 @@ fn reads_beside(
     a: &Expr,
     b: &Expr,
 ) -> Mem<bool>
-    ensures { IfOk result (λ reads. reads ≡ list_all (is_read_as given.entry.text.now) (kind_beside (option_copied of_type.entry) given.entry.place property a.now b.now)) }
+    ensures { IfOk result (λ reads. reads ≡ list_all (is_read_as given.entry.text.now)
+        (kind_beside (option_copied of_type.entry) given.entry.place property a.now b.now)) }
 {
     if is_parameter(given.place, a) || is_parameter(given.place, b) {
         is_read_as(alloc, given.text, kind_at(of_type, property))
@@ -89,7 +90,8 @@ fn reads_in(
     given: Given,
     filter: &Filter,
 ) -> Mem<bool>
-    ensures { IfOk result (λ reads. reads ≡ list_all (is_read_as given.entry.text.now) (kinds_of (option_copied of_type.entry) given.entry.place filter.now)) }
+    ensures { IfOk result (λ reads. reads ≡ list_all (is_read_as given.entry.text.now)
+        (kinds_of (option_copied of_type.entry) given.entry.place filter.now)) }
 {
     match filter {
         Filter::Both(parts) => reads_in_all(alloc, of_type, given, parts),
@@ -124,7 +126,9 @@ fn reads_in_all(
     given: Given,
     parts: &List<Filter>,
 ) -> Mem<bool>
-    ensures { IfOk result (λ reads. reads ≡ list_all (is_read_as given.entry.text.now) (flat_map (λ part. part) (map (kinds_of (option_copied of_type.entry) given.entry.place) parts.now))) }
+    ensures { IfOk result (λ reads. reads ≡ list_all (is_read_as given.entry.text.now)
+        (flat_map (λ part. part) (map (kinds_of (option_copied of_type.entry) given.entry.place)
+        parts.now))) }
 {
     for part in parts.items() {
         if !reads_in(alloc, of_type, given, part)? {
@@ -135,7 +139,8 @@ fn reads_in_all(
 }
 
 fn reads_in_query(alloc: Global, schema: &Schema, given: Given, query: &Query) -> Mem<bool>
-    ensures { IfOk result (λ reads. reads ≡ list_all (is_read_as given.entry.text.now) (kinds_in (type_in schema.now query.now.kind) given.entry.place query.now.filter)) }
+    ensures { IfOk result (λ reads. reads ≡ list_all (is_read_as given.entry.text.now)
+        (kinds_in (type_in schema.now query.now.kind) given.entry.place query.now.filter)) }
 {
     match &query.filter {
         None => Ok(true),

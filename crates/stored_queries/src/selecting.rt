@@ -32,7 +32,8 @@ fn selected_behind<V: FeatureView, L: Ledger>(
     queries: &[Meant],
     steps: &mut Steps<L>,
 ) -> Mem<List<Rid>>
-    ensures { IfOk result (λ ids. ids ≡ selected_behind (V.features view.now) before (all_meant queries.now)) }
+    ensures { IfOk result (λ ids. ids ≡ selected_behind (V.features view.now) before
+        (all_meant queries.now)) }
 {
     let mut ids = before;
     for meant in queries {
@@ -50,7 +51,8 @@ pub fn all_selected<V: FeatureView, L: Ledger>(
     queries: &[Meant],
     steps: &mut Steps<L>,
 ) -> Mem<List<Rid>>
-    ensures { IfOk result (λ ids. ids ≡ all_selected (V.features view.now) (all_meant queries.now)) }
+    ensures { IfOk result (λ ids. ids ≡ all_selected (V.features view.now)
+        (all_meant queries.now)) }
 {
     selected_behind(alloc, view, nothing(alloc), queries, steps)
 }
@@ -65,7 +67,8 @@ fn selected_under<V: FeatureView, L: Ledger>(
     requires name { blank.name ≡ L.name }
     requires parts { blank.parts ≡ L.parts }
     requires some { 0 < blank.parts }
-    ensures { IfOk result (λ ids. ids ≡ selected_behind (V.features view.now) before (all_meant queries.now)) }
+    ensures { IfOk result (λ ids. ids ≡ selected_behind (V.features view.now) before
+        (all_meant queries.now)) }
 {
     let mut steps = Steps::<L>::new(blank);
     selected_behind(alloc, view, before, queries, &mut steps)
@@ -78,7 +81,8 @@ fn selected_uncounted<V: FeatureView>(
     before: List<Rid>,
     queries: &[Meant],
 ) -> Mem<List<Rid>>
-    ensures { IfOk result (λ ids. ids ≡ selected_behind (V.features view.now) before (all_meant queries.now)) }
+    ensures { IfOk result (λ ids. ids ≡ selected_behind (V.features view.now) before
+        (all_meant queries.now)) }
 {
     selected_under::<V, Brand>(alloc, view, before, queries, Blank::new(1))
 }
@@ -90,7 +94,8 @@ pub(crate) fn selected_of<V: FeatureView>(
     view: &V,
     queries: &[Meant],
 ) -> Mem<List<Rid>>
-    ensures { IfOk result (λ ids. ids ≡ all_selected (V.features view.now) (all_meant queries.now)) }
+    ensures { IfOk result (λ ids. ids ≡ all_selected (V.features view.now)
+        (all_meant queries.now)) }
 {
     selected_uncounted(alloc, view, nothing(alloc), queries)
 }
@@ -104,7 +109,8 @@ fn with_selected<V: FeatureView>(
     before: List<Rid>,
     one: &Asked,
 ) -> Result<List<Rid>, StoredFault>
-    ensures { GivesBut OutOfMemory (λ ids. ids) result (with_selected (V.features view.now) before (expanded schema.now stored.now one.now)) }
+    ensures { GivesBut OutOfMemory (λ ids. ids) result
+        (with_selected (V.features view.now) before (expanded schema.now stored.now one.now)) }
 {
     let queries = expand_one(alloc, stored, one, schema)?;
     Ok(selected_uncounted(alloc, view, before, &queries)?)
@@ -119,7 +125,8 @@ pub fn select_asked<V: FeatureView>(
     schema: &Schema,
     asked: &[Asked],
 ) -> Result<List<Rid>, StoredFault>
-    ensures { GivesBut OutOfMemory (λ ids. ids) result (asked_selected schema.now stored.now (V.features view.now) asked.now) }
+    ensures { GivesBut OutOfMemory (λ ids. ids) result
+        (asked_selected schema.now stored.now (V.features view.now) asked.now) }
 {
     let mut ids = nothing(alloc);
     for one in asked {

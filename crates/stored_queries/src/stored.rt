@@ -130,7 +130,10 @@ impl Model for Stored {
 
     ghost coded = { Prim.hlevel (codes, filter_row.the_row.coded) };
 
-    ghost view = { λ s. record { list = s.queries.items; spare = vec_capacity s.queries - vec_len s.queries } };
+    ghost view = { λ s. record {
+      list = s.queries.items;
+      spare = vec_capacity s.queries - vec_len s.queries;
+    } };
 }
 
 impl Stored {
@@ -182,9 +185,11 @@ impl Stored {
     /// `DuplicateId`, with the first identifier that is that of the built-in query, of one that is there, or of one before it
     /// among the new ones. `OutOfMemory` comes only where there is no room for all.
     pub fn create(&mut self, definitions: List<StoredQuery>) -> Result<(), StoredFault>
-        ensures value { GivesBut NoMemory (λ _. self.new.list) result (created self.old.list definitions) }
+        ensures value { GivesBut NoMemory (λ _. self.new.list) result
+            (created self.old.list definitions) }
         ensures err { OnErr result (self.new.list ≡ self.old.list) }
-        ensures memory { length definitions ≤ self.old.spare → IfErr result (λ fault. fault ≢ NoMemory) }
+        ensures memory { length definitions ≤ self.old.spare
+            → IfErr result (λ fault. fault ≢ NoMemory) }
         ensures room { self.old.spare ≤ self.new.spare + length definitions }
     {
         if let Some(i) = first_known(self.queries.as_slice(), definitions.items()) {

@@ -89,7 +89,8 @@ fn stored_used(
     given: &[(Text, Text)],
     found: Option<&StoredQuery>,
 ) -> Result<Vec<Query>, StoredFault>
-    ensures { GivesBut OutOfMemory (λ v. v.items) result (stored_used schema.now id.now given.now (option_copied found.entry)) }
+    ensures { GivesBut OutOfMemory (λ v. v.items) result
+        (stored_used schema.now id.now given.now (option_copied found.entry)) }
 {
     let Some(query) = found else {
         return Err(StoredFault::Unknown(id.copy(alloc)?));
@@ -107,7 +108,8 @@ pub(crate) fn used(
     id: &Text,
     given: &[(Text, Text)],
 ) -> Result<Vec<Query>, StoredFault>
-    ensures { GivesBut OutOfMemory (λ v. v.items) result (expanded schema.now stored.now (Used id.now given.now)) }
+    ensures { GivesBut OutOfMemory (λ v. v.items) result
+        (expanded schema.now stored.now (Used id.now given.now)) }
 {
     if is_id_query(id.as_str()) {
         id_query_used(alloc, schema, given)

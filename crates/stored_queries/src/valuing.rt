@@ -36,7 +36,8 @@ fn with_values<'a, V: FeatureView>(
     property: u32,
     ids: &[Rid],
 ) -> Mem<Vec<&'a Feature>>
-    ensures { IfOk result (λ fs. map (λ f. f.now) fs.items ≡ filter (has_value kind property) (held (V.features view.now) ids.now)) }
+    ensures { IfOk result (λ fs. map (λ f. f.now) fs.items
+        ≡ filter (has_value kind property) (held (V.features view.now) ids.now)) }
 {
     let mut found = Vec::with_capacity(alloc, ids.len())?;
     for id in ids {
@@ -87,7 +88,8 @@ pub(crate) fn values<V: FeatureView>(
     property: u32,
     ids: &[Rid],
 ) -> Mem<Reply>
-    ensures { IfOk result (λ reply. reply ≡ values moment present.now kind property (held (V.features view.now) ids.now)) }
+    ensures { IfOk result (λ reply. reply ≡ values moment present.now kind property
+        (held (V.features view.now) ids.now)) }
 {
     let some = with_values(alloc, view, kind, property, ids)?;
     let found = some.as_slice();

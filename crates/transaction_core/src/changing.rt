@@ -42,7 +42,10 @@ fn copied(alloc: Global, values: &[Value]) -> Mem<Vec<Value>>
 
 // An equal feature but for the values that are set.
 fn updated(alloc: Global, feature: &Feature, sets: &[(u32, Value)]) -> Mem<Feature>
-    ensures { IfOk result (λ f. f ≡ record { id = feature.now.id; values = fold with_value feature.now.values sets.now }) }
+    ensures { IfOk result (λ f. f ≡ record {
+      id = feature.now.id;
+      values = fold with_value feature.now.values sets.now;
+    }) }
 {
     let mut values = copied(alloc, feature.items())?;
     set_values(alloc, values.as_mut_slice(), sets)?;

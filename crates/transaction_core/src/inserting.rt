@@ -32,9 +32,13 @@ fn insert<'a, V: FeatureView>(
     feature: &Feature,
 ) -> Mem<()>
     requires kind { feature.now.id.kind < length tally.old.counters.items }
-    requires fits { let schema = ⟦<Overlay<'a, V> as FeatureView>⟧.schema in feature_fits (schema overlay.old) feature.now ≡ Ok tt }
-    ensures came { let features = ⟦<Overlay<'a, V> as FeatureView>⟧.features in OnOk result (planning_of (features overlay.new) tally.new ≡ came handle.now (planning_of (features overlay.old) tally.old) feature.now) }
-    ensures schema { let schema = ⟦<Overlay<'a, V> as FeatureView>⟧.schema in OnOk result (schema overlay.new ≡ schema overlay.old) }
+    requires fits { let schema = ⟦<Overlay<'a, V> as FeatureView>⟧.schema in feature_fits
+        (schema overlay.old) feature.now ≡ Ok tt }
+    ensures came { let features = ⟦<Overlay<'a, V> as FeatureView>⟧.features in OnOk result
+        (planning_of (features overlay.new) tally.new
+        ≡ came handle.now (planning_of (features overlay.old) tally.old) feature.now) }
+    ensures schema { let schema = ⟦<Overlay<'a, V> as FeatureView>⟧.schema in OnOk result
+        (schema overlay.new ≡ schema overlay.old) }
 {
     let kind = feature.id.kind as usize;
     let number = next_number(tally.counters[kind])?;
@@ -57,10 +61,15 @@ pub(crate) fn insert_all<'a, V: FeatureView>(
     handle: &Option<Text>,
     features: &[Feature],
 ) -> Mem<()>
-    requires counters { let schema = ⟦<Overlay<'a, V> as FeatureView>⟧.schema in length tally.old.counters.items ≡ length (schema overlay.old).types }
-    requires fitting { let schema = ⟦<Overlay<'a, V> as FeatureView>⟧.schema in All (IsNewOf (schema overlay.old)) features.now }
-    ensures came { let stand = ⟦<Overlay<'a, V> as FeatureView>⟧.features in OnOk result (planning_of (stand overlay.new) tally.new ≡ fold (came handle.now) (planning_of (stand overlay.old) tally.old) features.now) }
-    ensures schema { let schema = ⟦<Overlay<'a, V> as FeatureView>⟧.schema in OnOk result (schema overlay.new ≡ schema overlay.old) }
+    requires counters { let schema = ⟦<Overlay<'a, V> as FeatureView>⟧.schema in length
+        tally.old.counters.items ≡ length (schema overlay.old).types }
+    requires fitting { let schema = ⟦<Overlay<'a, V> as FeatureView>⟧.schema in All
+        (IsNewOf (schema overlay.old)) features.now }
+    ensures came { let stand = ⟦<Overlay<'a, V> as FeatureView>⟧.features in OnOk result
+        (planning_of (stand overlay.new) tally.new
+        ≡ fold (came handle.now) (planning_of (stand overlay.old) tally.old) features.now) }
+    ensures schema { let schema = ⟦<Overlay<'a, V> as FeatureView>⟧.schema in OnOk result
+        (schema overlay.new ≡ schema overlay.old) }
 {
     for feature in features {
         insert(alloc, overlay, tally, handle, feature)?;

@@ -24,10 +24,13 @@ pub(crate) fn lay<'a, V: FeatureView>(
     now: Option<Feature>,
 ) -> Mem<()>
     requires id { IsOf id now }
-    requires fits { let schema = ⟦<Overlay<'a, V> as FeatureView>⟧.schema in FitsIf (schema overlay.old) now }
-    ensures features { let features = ⟦<Overlay<'a, V> as FeatureView>⟧.features in OnOk result (features overlay.new ≡ laid (features overlay.old) id now) }
+    requires fits { let schema = ⟦<Overlay<'a, V> as FeatureView>⟧.schema in FitsIf
+        (schema overlay.old) now }
+    ensures features { let features = ⟦<Overlay<'a, V> as FeatureView>⟧.features in OnOk result
+        (features overlay.new ≡ laid (features overlay.old) id now) }
     ensures parts { OnOk result (parts.new.items ≡ parts.old.items ++ part_at id now ∷ []) }
-    ensures schema { let schema = ⟦<Overlay<'a, V> as FeatureView>⟧.schema in OnOk result (schema overlay.new ≡ schema overlay.old) }
+    ensures schema { let schema = ⟦<Overlay<'a, V> as FeatureView>⟧.schema in OnOk result
+        (schema overlay.new ≡ schema overlay.old) }
 {
     match now {
         None => {
@@ -51,9 +54,14 @@ fn turn<'a, V: FeatureView>(
     id: Rid,
 ) -> Mem<()>
     requires aimed { IsAimed action.now id.kind }
-    requires fitting { let schema = ⟦<Overlay<'a, V> as FeatureView>⟧.schema in IsActionOf (schema overlay.old) action.now }
-    ensures turned { let features = ⟦<Overlay<'a, V> as FeatureView>⟧.features in OnOk result (record { features = features overlay.new; parts = parts.new.items } ≡ turned action.now (record { features = features overlay.old; parts = parts.old.items }) id) }
-    ensures schema { let schema = ⟦<Overlay<'a, V> as FeatureView>⟧.schema in OnOk result (schema overlay.new ≡ schema overlay.old) }
+    requires fitting { let schema = ⟦<Overlay<'a, V> as FeatureView>⟧.schema in IsActionOf
+        (schema overlay.old) action.now }
+    ensures turned { let features = ⟦<Overlay<'a, V> as FeatureView>⟧.features in OnOk result
+        (record { features = features overlay.new; parts = parts.new.items }
+        ≡ turned action.now (record { features = features overlay.old; parts = parts.old.items })
+        id) }
+    ensures schema { let schema = ⟦<Overlay<'a, V> as FeatureView>⟧.schema in OnOk result
+        (schema overlay.new ≡ schema overlay.old) }
 {
     let Some(feature) = overlay.get(id) else {
         return Ok(());
@@ -72,9 +80,16 @@ pub(crate) fn turn_all<'a, V: FeatureView>(
     ids: &[Rid],
 ) -> Mem<()>
     requires aimed { All (λ id. IsAimed action.now id.kind) ids.now }
-    requires fitting { let schema = ⟦<Overlay<'a, V> as FeatureView>⟧.schema in IsActionOf (schema overlay.old) action.now }
-    ensures turned { let features = ⟦<Overlay<'a, V> as FeatureView>⟧.features in OnOk result (record { features = features overlay.new; parts = parts.new.items } ≡ fold (turned action.now) (record { features = features overlay.old; parts = parts.old.items }) ids.now) }
-    ensures schema { let schema = ⟦<Overlay<'a, V> as FeatureView>⟧.schema in OnOk result (schema overlay.new ≡ schema overlay.old) }
+    requires fitting { let schema = ⟦<Overlay<'a, V> as FeatureView>⟧.schema in IsActionOf
+        (schema overlay.old) action.now }
+    ensures turned { let features = ⟦<Overlay<'a, V> as FeatureView>⟧.features in OnOk result
+        (record { features = features overlay.new; parts = parts.new.items }
+        ≡ fold (turned action.now) (record {
+          features = features overlay.old;
+          parts = parts.old.items;
+        }) ids.now) }
+    ensures schema { let schema = ⟦<Overlay<'a, V> as FeatureView>⟧.schema in OnOk result
+        (schema overlay.new ≡ schema overlay.old) }
 {
     for id in ids {
         turn(alloc, overlay, parts, action, *id)?;

@@ -31,7 +31,8 @@ pub(crate) fn named_if(
     lock: Option<LockId>,
 ) -> Result<Option<u64>, PlanFault>
     requires { locks.now.last ≤ moment }
-    ensures { (state : State) (features : List Feature) (counters : List ℕ) → Answers result (named_if (with_these state features counters locks.now) moment lock) }
+    ensures { (state : State) (features : List Feature) (counters : List ℕ)
+        → Answers result (named_if (with_these state features counters locks.now) moment lock) }
 {
     let Some(id) = lock else {
         return Ok(None);

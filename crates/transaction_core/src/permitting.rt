@@ -30,7 +30,8 @@ fn is_another(number: Option<u64>, holder: Option<u64>) -> bool
 
 // The first feature that another lock holds.
 fn first_withheld(guard: &Guard<'_>, touched: &[Rid]) -> Option<Rid>
-    ensures { result ≡ find (is_withheld guard.now.locks.now.locks guard.now.moment guard.now.number) touched.now }
+    ensures { result ≡ find (is_withheld guard.now.locks.now.locks guard.now.moment
+        guard.now.number) touched.now }
 {
     for feature in touched {
         let holder = guard.locks.holder(*feature, guard.moment);
@@ -43,7 +44,8 @@ fn first_withheld(guard: &Guard<'_>, touched: &[Rid]) -> Option<Rid>
 
 // Adds the name of a type, where there is one.
 fn push_name(text: &mut String, of_type: Option<&FeatureType>) -> Mem<()>
-    ensures { OnOk result (string_bytes text.new ≡ string_bytes text.old ++ type_name (option_copied of_type.entry)) }
+    ensures { OnOk result (string_bytes text.new
+        ≡ string_bytes text.old ++ type_name (option_copied of_type.entry)) }
 {
     match of_type {
         None => Ok(()),

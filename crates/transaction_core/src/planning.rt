@@ -37,11 +37,17 @@ fn work<'a, V: FeatureView>(
     action: &Action,
     ids: &[Rid],
 ) -> Mem<()>
-    requires order { let features = ⟦<Overlay<'a, V> as FeatureView>⟧.features in IsInOrder (features overlay.old) }
-    requires ids { let features = ⟦<Overlay<'a, V> as FeatureView>⟧.features in ids.now ≡ touched_by action.now (planning_of (features overlay.old) tally.old).at }
-    requires fitting { let schema = ⟦<Overlay<'a, V> as FeatureView>⟧.schema in IsActionOf (schema overlay.old) action.now }
-    ensures worked { let features = ⟦<Overlay<'a, V> as FeatureView>⟧.features in OnOk result (planning_of (features overlay.new) tally.new ≡ worked action.now (planning_of (features overlay.old) tally.old)) }
-    ensures schema { let schema = ⟦<Overlay<'a, V> as FeatureView>⟧.schema in OnOk result (schema overlay.new ≡ schema overlay.old) }
+    requires order { let features = ⟦<Overlay<'a, V> as FeatureView>⟧.features in IsInOrder
+        (features overlay.old) }
+    requires ids { let features = ⟦<Overlay<'a, V> as FeatureView>⟧.features in ids.now
+        ≡ touched_by action.now (planning_of (features overlay.old) tally.old).at }
+    requires fitting { let schema = ⟦<Overlay<'a, V> as FeatureView>⟧.schema in IsActionOf
+        (schema overlay.old) action.now }
+    ensures worked { let features = ⟦<Overlay<'a, V> as FeatureView>⟧.features in OnOk result
+        (planning_of (features overlay.new) tally.new
+        ≡ worked action.now (planning_of (features overlay.old) tally.old)) }
+    ensures schema { let schema = ⟦<Overlay<'a, V> as FeatureView>⟧.schema in OnOk result
+        (schema overlay.new ≡ schema overlay.old) }
 {
     turn_all(alloc, overlay, &mut tally.parts, action, ids)?;
     note(alloc, tally, action, ids)?;
@@ -57,9 +63,13 @@ fn change<'a, V: FeatureView, L: Ledger>(
     action: &Action,
     steps: &mut Steps<L>,
 ) -> Result<(), PlanFault>
-    requires fitting { let schema = ⟦<Overlay<'a, V> as FeatureView>⟧.schema in IsActionOf (schema overlay.old) action.now }
-    ensures worked { let features = ⟦<Overlay<'a, V> as FeatureView>⟧.features in ComesTo result (worked_or_not (may_of guard.now) (planning_of (features overlay.old) tally.old) action.now) (planning_of (features overlay.new) tally.new) }
-    ensures schema { let schema = ⟦<Overlay<'a, V> as FeatureView>⟧.schema in OnOk result (schema overlay.new ≡ schema overlay.old) }
+    requires fitting { let schema = ⟦<Overlay<'a, V> as FeatureView>⟧.schema in IsActionOf
+        (schema overlay.old) action.now }
+    ensures worked { let features = ⟦<Overlay<'a, V> as FeatureView>⟧.features in ComesTo result
+        (worked_or_not (may_of guard.now) (planning_of (features overlay.old) tally.old) action.now)
+        (planning_of (features overlay.new) tally.new) }
+    ensures schema { let schema = ⟦<Overlay<'a, V> as FeatureView>⟧.schema in OnOk result
+        (schema overlay.new ≡ schema overlay.old) }
 {
     let ids = selected(alloc, overlay, action, steps)?;
     if are_too_many(action, ids.items()) {
@@ -79,10 +89,15 @@ fn act<'a, V: FeatureView, L: Ledger>(
     action: &Action,
     steps: &mut Steps<L>,
 ) -> Result<(), PlanFault>
-    requires counters { let schema = ⟦<Overlay<'a, V> as FeatureView>⟧.schema in length tally.old.counters.items ≡ length (schema overlay.old).types }
-    requires fitting { let schema = ⟦<Overlay<'a, V> as FeatureView>⟧.schema in IsActionOf (schema overlay.old) action.now }
-    ensures planned { let features = ⟦<Overlay<'a, V> as FeatureView>⟧.features in ComesTo result (planned (may_of guard.now) (planning_of (features overlay.old) tally.old) action.now) (planning_of (features overlay.new) tally.new) }
-    ensures schema { let schema = ⟦<Overlay<'a, V> as FeatureView>⟧.schema in OnOk result (schema overlay.new ≡ schema overlay.old) }
+    requires counters { let schema = ⟦<Overlay<'a, V> as FeatureView>⟧.schema in length
+        tally.old.counters.items ≡ length (schema overlay.old).types }
+    requires fitting { let schema = ⟦<Overlay<'a, V> as FeatureView>⟧.schema in IsActionOf
+        (schema overlay.old) action.now }
+    ensures planned { let features = ⟦<Overlay<'a, V> as FeatureView>⟧.features in ComesTo result
+        (planned (may_of guard.now) (planning_of (features overlay.old) tally.old) action.now)
+        (planning_of (features overlay.new) tally.new) }
+    ensures schema { let schema = ⟦<Overlay<'a, V> as FeatureView>⟧.schema in OnOk result
+        (schema overlay.new ≡ schema overlay.old) }
 {
     if let Action::Insert { handle, features } = action {
         insert_all(alloc, overlay, tally, handle, features.items())?;
@@ -100,9 +115,13 @@ fn act_all<'a, V: FeatureView, L: Ledger>(
     actions: &[Action],
     steps: &mut Steps<L>,
 ) -> Result<(), PlanFault>
-    requires counters { let schema = ⟦<Overlay<'a, V> as FeatureView>⟧.schema in length tally.old.counters.items ≡ length (schema overlay.old).types }
-    requires fitting { let schema = ⟦<Overlay<'a, V> as FeatureView>⟧.schema in All (IsActionOf (schema overlay.old)) actions.now }
-    ensures { let features = ⟦<Overlay<'a, V> as FeatureView>⟧.features in ComesTo result (each (planned (may_of guard.now)) (planning_of (features overlay.old) tally.old) actions.now) (planning_of (features overlay.new) tally.new) }
+    requires counters { let schema = ⟦<Overlay<'a, V> as FeatureView>⟧.schema in length
+        tally.old.counters.items ≡ length (schema overlay.old).types }
+    requires fitting { let schema = ⟦<Overlay<'a, V> as FeatureView>⟧.schema in All
+        (IsActionOf (schema overlay.old)) actions.now }
+    ensures { let features = ⟦<Overlay<'a, V> as FeatureView>⟧.features in ComesTo result
+        (each (planned (may_of guard.now)) (planning_of (features overlay.old) tally.old)
+        actions.now) (planning_of (features overlay.new) tally.new) }
 {
     for action in actions {
         act(alloc, overlay, tally, guard, action, steps)?;
@@ -121,7 +140,8 @@ fn plan_with<V: FeatureView, L: Ledger>(
 ) -> Result<Planned, PlanFault>
     requires counters { length counters.now ≡ length (V.schema view.now).types }
     requires fitting { All (IsActionOf (V.schema view.now)) actions.now }
-    ensures { Answers result (if_planned (planned_all (may_of guard.now) (V.features view.now) counters.now actions.now)) }
+    ensures { Answers result (if_planned (planned_all (may_of guard.now) (V.features view.now)
+        counters.now actions.now)) }
 {
     let mut overlay = Overlay::over(alloc, view);
     let mut tally = begin(alloc, counters)?;
@@ -149,7 +169,9 @@ pub fn plan<V: FeatureView, L: Ledger>(
     requires fitting { IsOfSchema schema.now request.now }
     requires counters { length counters.now ≡ length schema.now.types }
     requires later { locks.now.last ≤ moment }
-    ensures { (state : State) → Answers result (transaction schema.now (with_these state (V.features view.now) counters.now locks.now) moment request.now) }
+    ensures { (state : State) → Answers result
+        (transaction schema.now (with_these state (V.features view.now) counters.now locks.now)
+        moment request.now) }
 {
     let Request::Transact { lock, actions, .. } = request else {
         unreachable!();

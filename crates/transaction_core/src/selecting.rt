@@ -26,7 +26,11 @@ fn copied(alloc: Global, passing: Option<&Filter>) -> Mem<Option<Filter>>
 
 // A query of the features of a type that pass a filter, in default order.
 fn query_of(alloc: Global, kind: u32, passing: Option<&Filter>) -> Mem<Query>
-    ensures { IfOk result (λ q. q ≡ record { kind = Some kind; filter = option_copied passing.entry; sort = [] }) }
+    ensures { IfOk result (λ q. q ≡ record {
+      kind = Some kind;
+      filter = option_copied passing.entry;
+      sort = [];
+    }) }
 {
     Ok(Query {
         kind: Some(kind),
@@ -44,7 +48,8 @@ fn aims<V: FeatureView, L: Ledger>(
     steps: &mut Steps<L>,
 ) -> Mem<List<Rid>>
     requires { IsInOrder (V.features view.now) }
-    ensures { IfOk result (λ ids. ids ≡ ids_of (filter (is_aim kind (option_copied passing.entry)) (V.features view.now))) }
+    ensures { IfOk result (λ ids. ids ≡ ids_of
+        (filter (is_aim kind (option_copied passing.entry)) (V.features view.now))) }
 {
     let query = query_of(alloc, kind, passing)?;
     select(alloc, view, &query, steps)
@@ -58,7 +63,8 @@ pub(crate) fn selected<V: FeatureView, L: Ledger>(
     action: &Action,
     steps: &mut Steps<L>,
 ) -> Mem<List<Rid>>
-    ensures value { IfOk result (λ ids. ids ≡ ids_of (filter (selects action.now) (V.features view.now))) }
+    ensures value { IfOk result (λ ids. ids ≡ ids_of
+        (filter (selects action.now) (V.features view.now))) }
     ensures order { IsInOrder (V.features view.now) }
 {
     let _ = view.get(Rid { kind: 0, number: 0 });

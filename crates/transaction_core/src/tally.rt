@@ -29,7 +29,12 @@ pub(crate) struct Tally {
 
 /// The tally before the first action.
 pub(crate) fn begin(alloc: Global, counters: &[u64]) -> Mem<Tally>
-    ensures { IfOk result (λ t. (features : List Feature) → planning_of features t ≡ record { at = begun features counters.now; parts = []; touched = [] }) }
+    ensures { IfOk result (λ t. (features : List Feature)
+        → planning_of features t ≡ record {
+          at = begun features counters.now;
+          parts = [];
+          touched = [];
+        }) }
 {
     Ok(Tally {
         counters: Vec::from_slice(alloc, counters)?,
@@ -75,7 +80,10 @@ fn tell_all(alloc: Global, made: &mut Vec<Made>, handle: &Option<Text>, ids: &[R
 /// Notes what an action tells of the features that it selected.
 #[tactic(auto, unfolding(wfs_model::specs::Acts::noted))]
 pub(crate) fn note(alloc: Global, tally: &mut Tally, action: &Action, ids: &[Rid]) -> Mem<()>
-    ensures { OnOk result ((features : List Feature) → planning_of features tally.new ≡ (let plan = planning_of features tally.old in record plan { at = noted action.now ids.now plan.at })) }
+    ensures { OnOk result ((features : List Feature)
+        → planning_of features tally.new
+        ≡ (let plan = planning_of features tally.old
+        in record plan { at = noted action.now ids.now plan.at })) }
 {
     match action {
         Action::Insert { .. } => Ok(()),

@@ -17,7 +17,10 @@ impl<T: Kept> Turnstile<T> {
         requires idle { token.old.me.0.stage ≡ Idle }
         requires seats { All (IsFreeAt (name_of self.now)) seats.items }
         ensures own { token.new.table_id ≡ token.old.table_id }
-        ensures all { token.new.me ≡ (joined_with token.old.me.0 (map past seats.items), token.old.me.1) }
+        ensures all { token.new.me ≡ (
+          joined_with token.old.me.0 (map past seats.items),
+          token.old.me.1,
+        ) }
     {
         let mut others = seats;
         while let Some(other) = others.pop() {

@@ -118,7 +118,8 @@ impl<T: Kept> Turnstile<T> {
 
     /// Takes in what another seat knows, which is then no more.
     pub(crate) fn take_in(&self, token: &mut Token<T, T::Entry>, other: Token<T, T::Entry>)
-        requires own { (token.old.table_id ≡ name_of self.now) × (other.table_id ≡ name_of self.now) }
+        requires own { (token.old.table_id ≡ name_of self.now)
+            × (other.table_id ≡ name_of self.now) }
         requires idle { token.old.me.0.stage ≡ Idle }
         requires other_idle { (other.me.0.stage ≡ Idle) × (other.me.1 ≡ []) }
         ensures own { token.new.table_id ≡ token.old.table_id }

@@ -86,7 +86,8 @@ impl<T: Kept> Turnstile<T> {
         requires opening { HasOpeningOf seat.old turn.value }
         ensures own { turnstile_of seat.new ≡ turnstile_of seat.old }
         ensures free { IsFree seat.new }
-        ensures seat { past seat.new ≡ tallied (past seat.old) (T.tally turn.value (past seat.old).number) }
+        ensures seat { past seat.new ≡ tallied (past seat.old)
+            (T.tally turn.value (past seat.old).number) }
     {
         let Turn { value } = turn;
         self.put_back(&mut seat.token, value);

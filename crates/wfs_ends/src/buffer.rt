@@ -50,10 +50,12 @@ impl Buffer {
 
     // Passes on what is held. Where the sink fails, what it did not take is held still.
     fn pass_on<S: Sink>(&mut self, sink: &mut S) -> Result<(), Failed>
-        ensures given { given_more (S.sink sink.new).given self.new ≡ given_more (S.sink sink.old).given self.old }
+        ensures given { given_more (S.sink sink.new).given self.new
+            ≡ given_more (S.sink sink.old).given self.old }
         ensures grows { Grows (S.sink sink.old).given (S.sink sink.new).given }
         ensures keeps { KeepsLeft (S.sink sink.old) (S.sink sink.new) }
-        ensures cause { OnErr result (Rose (S.sink sink.old).failed_puts (S.sink sink.new).failed_puts) }
+        ensures cause { OnErr result (Rose (S.sink sink.old).failed_puts
+            (S.sink sink.new).failed_puts) }
         ensures calm { OnOk result ((S.sink sink.new).failed_puts ≡ (S.sink sink.old).failed_puts) }
         ensures empty { OnOk result (self.new ≡ []) }
     {
@@ -72,7 +74,10 @@ impl Buffer {
         sink: &mut S,
         given: Result<(), WriteFault>,
     ) -> Result<(), WriteFault>
-        ensures { (first : Shown) (text : List ℕ) (a b : GName) → Gives given (behind_buffer a b [] first) text (behind_buffer a b self.old (S.sink sink.old)) → Gives result first text (S.sink sink.new) }
+        ensures { (first : Shown) (text : List ℕ) (a b : GName)
+            → Gives given (behind_buffer a b [] first) text
+            (behind_buffer a b self.old (S.sink sink.old))
+            → Gives result first text (S.sink sink.new) }
     {
         match given {
             Err(fault) => Err(fault),
@@ -109,7 +114,8 @@ pub struct Buffered<'a, S> {
 }
 
 impl<'a, S: Sink> Sink for Buffered<'a, S> {
-    ghost sink = { λ b. behind_buffer b.sink.ghost_name b.buffer.ghost_name b.buffer.now (S.sink b.sink.now) };
+    ghost sink = { λ b. behind_buffer b.sink.ghost_name b.buffer.ghost_name b.buffer.now
+        (S.sink b.sink.now) };
 
     fn put(&mut self, piece: &[u8]) -> Result<usize, Failed> {
         if self.buffer.hold(piece) {

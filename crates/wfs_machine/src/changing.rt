@@ -42,7 +42,8 @@ fn change_in(planned: Planned) -> Option<Change>
 
 // A refusal makes no change.
 fn no_change(fault: PlanFault) -> Mem<Option<Change>>
-    ensures { (said : Result Planning Refusal) → IsSaid fault said → IfOk result (λ change. change ≡ rows_if said) }
+    ensures { (said : Result Planning Refusal) → IsSaid fault said
+        → IfOk result (λ change. change ≡ rows_if said) }
 {
     match fault {
         PlanFault::Refused(_) => Ok(None),
@@ -66,7 +67,9 @@ impl Plain {
         requires transaction { IsTransaction request.now }
         requires fitting { IsOfSchema self.now.schema request.now }
         requires later { self.now.state.last ≤ moment }
-        ensures { IfOk result (λ change. change ≡ rows_if (plan_of self.now.schema self.now.state moment (lock_in request.now) (actions_in request.now))) }
+        ensures { IfOk result (λ change. change
+            ≡ rows_if (plan_of self.now.schema self.now.state moment (lock_in request.now)
+            (actions_in request.now))) }
     {
         match self.planned(moment, request) {
             Ok(planned) => Ok(change_in(planned)),
@@ -76,7 +79,9 @@ impl Plain {
 
     // The change that new stored queries make, where they are accepted.
     fn creation(&self, definitions: &List<StoredQuery>) -> Mem<Option<Change>>
-        ensures { IfOk result (λ change. change ≡ if_accepted (created self.now.state.stored definitions.now) (Created definitions.now)) }
+        ensures { IfOk result (λ change. change
+            ≡ if_accepted (created self.now.state.stored definitions.now)
+            (Created definitions.now)) }
     {
         if !self.stored.accepts(definitions.items()) {
             return Ok(None);
@@ -87,7 +92,8 @@ impl Plain {
 
     // The change that the end of a stored query makes, where there is one.
     fn ending(&self, id: &Text) -> Mem<Option<Change>>
-        ensures { IfOk result (λ change. change ≡ if_accepted (dropped self.now.state.stored id.now) (Dropped id.now)) }
+        ensures { IfOk result (λ change. change
+            ≡ if_accepted (dropped self.now.state.stored id.now) (Dropped id.now)) }
     {
         if !self.stored.has(id.as_str()) {
             return Ok(None);
@@ -100,7 +106,9 @@ impl Plain {
     #[tactic(auto, unfolding(wfs_model::specs::Played::change_of))]
     pub fn change_of(&self, entry: &Entry) -> Mem<Option<Change>>
         requires { IsOfSchema self.now.schema entry.now.request }
-        ensures { IfOk result (λ change. change ≡ change_of self.now.schema self.now.state (moment_in self.now.state entry.now.moment) entry.now.request) }
+        ensures { IfOk result (λ change. change
+            ≡ change_of self.now.schema self.now.state (moment_in self.now.state entry.now.moment)
+            entry.now.request) }
     {
         match &entry.request {
             Request::Transact { .. } => self.rows(self.moment_of(entry.moment), &entry.request),
@@ -125,7 +133,8 @@ impl Plain {
     // Adds stored queries, whose identifiers are new.
     fn add(&mut self, queries: List<StoredQuery>) -> Mem<()>
         requires { KeepsWell self.old.schema self.old.state (Created queries) }
-        ensures state { OnOk result (self.new.state ≡ after_change self.old.state (Created queries)) }
+        ensures state { OnOk result (self.new.state
+            ≡ after_change self.old.state (Created queries)) }
         ensures err { OnErr result (self.new ≡ self.old) }
         ensures schema { self.new.schema ≡ self.old.schema }
     {

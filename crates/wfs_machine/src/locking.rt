@@ -33,7 +33,8 @@ impl Plain {
     /// Where a fault is a refusal, it is the reply, and changes the last moment alone.
     pub(crate) fn fail(&mut self, moment: u64, fault: PlanFault) -> Mem<Reply>
         requires { IsNext self.old.state moment }
-        ensures { (said : Result Done Refusal) → IsSaid fault said → Settles self.old moment said result self.new }
+        ensures { (said : Result Done Refusal) → IsSaid fault said
+            → Settles self.old moment said result self.new }
     {
         match fault {
             PlanFault::Refused(refusal) => {
@@ -46,7 +47,8 @@ impl Plain {
 
     // The identifiers of the features that are asked for.
     fn selected(&self, asked: &[Asked]) -> Result<List<Rid>, PlanFault>
-        ensures { Answers result (or_refused (asked_selected self.now.schema self.now.state.stored self.now.state.features asked.now)) }
+        ensures { Answers result (or_refused (asked_selected self.now.schema self.now.state.stored
+            self.now.state.features asked.now)) }
     {
         match select_asked(self.alloc, self, self.stored.list(), &self.schema, asked) {
             Ok(ids) => Ok(ids),
@@ -68,7 +70,8 @@ impl Plain {
         requires next { IsNext self.old.state moment }
         requires free { AreFree self.old.state.locks moment taken }
         ensures lock { IfOk result (λ lock. lock ≡ lock_on self.old.state taken) }
-        ensures state { OnOk result (self.new.state ≡ record (locked self.old.state moment period taken) { last = moment }) }
+        ensures state { OnOk result (self.new.state
+            ≡ record (locked self.old.state moment period taken) { last = moment }) }
         ensures err { OnErr result (self.new ≡ self.old) }
         ensures schema { self.new.schema ≡ self.old.schema }
     {
@@ -96,8 +99,13 @@ impl Plain {
     fn renew_lock(&mut self, moment: u64, number: u64, period: Option<u32>) -> Mem<List<Rid>>
         requires next { IsNext self.old.state moment }
         requires live { IsTrue (is_live_number self.old.state.locks moment number) }
-        ensures features { IfOk result (λ features. features ≡ features_of self.old.state.locks number) }
-        ensures state { OnOk result (self.new.state ≡ record self.old.state { locks = renewed moment number period self.old.state.locks; last = moment }) }
+        ensures features { IfOk result (λ features. features
+            ≡ features_of self.old.state.locks number) }
+        ensures state { OnOk result (self.new.state
+            ≡ record self.old.state {
+              locks = renewed moment number period self.old.state.locks;
+              last = moment;
+            }) }
         ensures err { OnErr result (self.new ≡ self.old) }
         ensures schema { self.new.schema ≡ self.old.schema }
     {
@@ -116,7 +124,8 @@ impl Plain {
         period: u32,
     ) -> Mem<Reply>
         requires next { IsNext self.old.state moment }
-        ensures { Settles self.old moment (lock_taken self.old.schema self.old.state moment asked.now take period) result self.new }
+        ensures { Settles self.old moment (lock_taken self.old.schema self.old.state moment
+            asked.now take period) result self.new }
     {
         let ids = match self.selected(asked) {
             Ok(ids) => ids,
@@ -145,7 +154,8 @@ impl Plain {
         period: u32,
     ) -> Mem<Reply>
         requires next { IsNext self.old.state moment }
-        ensures { Settles self.old moment (page_locked self.old.schema self.old.state moment present.now asked.now take period) result self.new }
+        ensures { Settles self.old moment (page_locked self.old.schema self.old.state moment
+            present.now asked.now take period) result self.new }
     {
         let ids = match self.selected(asked) {
             Ok(ids) => ids,
@@ -172,7 +182,8 @@ impl Plain {
     /// Gives a lock a new deadline (OGC 09-025r2, section 12.2.4.2).
     pub(crate) fn renew(&mut self, moment: u64, id: LockId, period: Option<u32>) -> Mem<Reply>
         requires next { IsNext self.old.state moment }
-        ensures { Settles self.old moment (lock_renewed self.old.state moment id period) result self.new }
+        ensures { Settles self.old moment (lock_renewed self.old.state moment id period) result
+            self.new }
     {
         let number = match self.named(moment, id) {
             Ok(number) => number,

@@ -52,7 +52,8 @@ pub(crate) fn number_by(alloc: Global, id: LockId, status: LockStatus) -> Result
 
 // Adds the name of a type, where there is one.
 fn push_name(text: &mut String, of_type: Option<&FeatureType>) -> Mem<()>
-    ensures { OnOk result (string_bytes text.new ≡ string_bytes text.old ++ type_name (option_copied of_type.entry)) }
+    ensures { OnOk result (string_bytes text.new
+        ≡ string_bytes text.old ++ type_name (option_copied of_type.entry)) }
 {
     match of_type {
         None => Ok(()),

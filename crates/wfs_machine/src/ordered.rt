@@ -31,7 +31,8 @@ fn place_of(features: &[Feature], id: Rid) -> usize
     requires { IsInOrder features.now }
     ensures bound { result ≤ length features.now }
     ensures low { AllWithin (λ f. is_before f.id id ≡ true) features.now 0 result }
-    ensures high { AllWithin (λ f. is_before f.id id ≡ false) features.now result (length features.now) }
+    ensures high { AllWithin (λ f. is_before f.id id ≡ false) features.now result
+        (length features.now) }
 {
     features.partition_point(|feature| is_before(feature.id, id))
 }

@@ -48,9 +48,29 @@ impl Model for Plain {
 
     ghost coded = { Prim.hlevel (codes, filter_row.the_row.coded) };
 
-    ghost view = { λ m. record { schema = m.schema; state = record { features = m.features.items; counters = m.counters; stored = m.stored.list; opening = m.opening; locks = m.locks.locks; given = m.given; last = m.last } } };
+    ghost view = { λ m. record {
+      schema = m.schema;
+      state = record {
+        features = m.features.items;
+        counters = m.counters;
+        stored = m.stored.list;
+        opening = m.opening;
+        locks = m.locks.locks;
+        given = m.given;
+        last = m.last;
+      };
+    } };
 
-    ghost invariant = { λ m. IsRunning m.schema (record { features = m.features.items; counters = m.counters; stored = m.stored.list; opening = m.opening; locks = m.locks.locks; given = m.given; last = m.last }) m.locks };
+    ghost invariant = { λ m. IsRunning m.schema
+        (record {
+          features = m.features.items;
+          counters = m.counters;
+          stored = m.stored.list;
+          opening = m.opening;
+          locks = m.locks.locks;
+          given = m.given;
+          last = m.last;
+        }) m.locks };
 }
 
 // No number was given of any type.
@@ -99,7 +119,9 @@ impl Plain {
     pub fn step(&mut self, entry: &Entry) -> Mem<Reply>
         requires change { IsChange entry.now.request }
         requires fitting { IsOfSchema self.old.schema entry.now.request }
-        ensures ok { IfOk result (λ reply. (reply, self.new.state) ≡ step self.old.schema self.old.state (moment_in self.old.state entry.now.moment) entry.now.request) }
+        ensures ok { IfOk result (λ reply. (reply, self.new.state)
+            ≡ step self.old.schema self.old.state (moment_in self.old.state entry.now.moment)
+            entry.now.request) }
         ensures err { OnErr result (self.new ≡ self.old) }
         ensures schema { self.new.schema ≡ self.old.schema }
     {
@@ -127,7 +149,8 @@ impl Plain {
     /// Answers a read, and prints this moment, 200,000,000,000 at the most (OGC 09-025r2, sections 8 to 11 and 14).
     pub fn read(&self, moment: u64, request: &Request) -> Mem<Reply>
         requires { IsChange request.now → ⊥ }
-        ensures { IfOk result (λ reply. reply ≡ read self.now.schema (durable self.now.state) (clamped moment) request.now) }
+        ensures { IfOk result (λ reply. reply ≡ read self.now.schema (durable self.now.state)
+            (clamped moment) request.now) }
     {
         let moment = moment.min(LAST_MOMENT);
         answer(

@@ -32,7 +32,8 @@ fn raise(counters: &mut [u64], part: &Part)
 fn play(features: &mut Vec<Feature>, counters: &mut [u64], part: Part)
     requires order { IsInOrder features.old.items }
     requires room { vec_len features.old < vec_capacity features.old }
-    ensures played { (kept : Durable) → with_rows kept features.new.items counters.new ≡ part_played (with_rows kept features.old.items counters.old) part }
+    ensures played { (kept : Durable) → with_rows kept features.new.items counters.new
+        ≡ part_played (with_rows kept features.old.items counters.old) part }
     ensures order { IsInOrder features.new.items }
     ensures len { vec_len features.new ≤ vec_len features.old + 1 }
     ensures capacity { vec_capacity features.old ≤ vec_capacity features.new }
@@ -45,7 +46,8 @@ fn play(features: &mut Vec<Feature>, counters: &mut [u64], part: Part)
 fn play_all(features: &mut Vec<Feature>, counters: &mut [u64], parts: Vec<Part>)
     requires order { IsInOrder features.old.items }
     requires room { vec_len features.old + length parts.items ≤ vec_capacity features.old }
-    ensures { (kept : Durable) → with_rows kept features.new.items counters.new ≡ fold part_played (with_rows kept features.old.items counters.old) parts.items }
+    ensures { (kept : Durable) → with_rows kept features.new.items counters.new
+        ≡ fold part_played (with_rows kept features.old.items counters.old) parts.items }
 {
     for part in parts {
         play(features, counters, part);
@@ -61,7 +63,8 @@ pub(crate) fn play_rows(
 )
     requires order { IsInOrder features.old.items }
     requires room { vec_len features.old + length parts ≤ vec_capacity features.old }
-    ensures { (kept : Durable) → with_rows kept features.new.items counters.new ≡ fold part_played (with_rows kept features.old.items counters.old) parts }
+    ensures { (kept : Durable) → with_rows kept features.new.items counters.new
+        ≡ fold part_played (with_rows kept features.old.items counters.old) parts }
 {
     let mut all = replace(counters, List::of(Vec::new(alloc))).into_items();
     play_all(features, all.as_mut_slice(), parts.into_items());

@@ -82,8 +82,10 @@ impl Plain {
     fn carry_out(&mut self, moment: u64, request: &Request, planned: Planned) -> Mem<Reply>
         requires next { IsNext self.old.state moment }
         requires fitting { IsOfSchema self.old.schema request.now }
-        requires planned { transaction self.old.schema self.old.state moment request.now ≡ Well planned }
-        ensures { Settles self.old moment (carried self.old.schema self.old.state moment request.now) result self.new }
+        requires planned { transaction self.old.schema self.old.state moment request.now
+            ≡ Well planned }
+        ensures { Settles self.old moment (carried self.old.schema self.old.state moment
+            request.now) result self.new }
     {
         // what is given up is dropped by calls, which know nothing of its parts
         let Request::Transact { lock, release, .. } = request else {
@@ -115,7 +117,8 @@ impl Plain {
         requires next { IsNext self.old.state moment }
         requires transaction { IsTransaction request.now }
         requires fitting { IsOfSchema self.old.schema request.now }
-        ensures { Settles self.old moment (carried self.old.schema self.old.state moment request.now) result self.new }
+        ensures { Settles self.old moment (carried self.old.schema self.old.state moment
+            request.now) result self.new }
     {
         match self.planned(moment, request) {
             Ok(planned) => self.carry_out(moment, request, planned),

@@ -19,31 +19,45 @@ ghost use Rattle.wfs_model.specs.Playable.{AreQueriesOf, is_playable, most_numbe
 /// What outlives the process is, after each beginning of a history, what the changes of its entries leave: nothing else is
 /// needed to have it again.
 pub fn changes_tell_what_is_kept()
-    ensures { (schema : Schema) (opening : State) (entries : List Entry) (n : ℕ) → IsKept schema (durable opening) → durable (after schema opening entries n) ≡ played (durable opening) (accepted schema opening (take n entries)) }
+    ensures { (schema : Schema) (opening : State) (entries : List Entry) (n : ℕ)
+        → IsKept schema (durable opening)
+        → durable (after schema opening entries n)
+        ≡ played (durable opening) (accepted schema opening (take n entries)) }
 {}
 
 /// A request that is refused changes the last moment alone.
 pub fn refused_changes_nothing()
-    ensures { (schema : Schema) (state : State) (moment : ℕ) (request : Request) (refusal : Refusal) → IsChange request → (step schema state moment request).0 ≡ Refused refusal → (step schema state moment request).1 ≡ record state { last = moment } }
+    ensures { (schema : Schema) (state : State) (moment : ℕ) (request : Request) (refusal : Refusal)
+        → IsChange request → (step schema state moment request).0 ≡ Refused refusal
+        → (step schema state moment request).1 ≡ record state { last = moment } }
 {}
 
 /// The last moment of a step is its moment.
 pub fn each_step_sets_the_moment()
-    ensures { (schema : Schema) (state : State) (moment : ℕ) (request : Request) → IsChange request → (step schema state moment request).1.last ≡ moment }
+    ensures { (schema : Schema) (state : State) (moment : ℕ) (request : Request) → IsChange request
+        → (step schema state moment request).1.last ≡ moment }
 {}
 
 /// A step keeps well what outlives the process: features stand in order, each such as the schema allows and under a number that was
 /// given, and stored queries are such as it allows, under identifiers of their own.
 pub fn steps_keep_what_is_kept_well()
-    ensures { (schema : Schema) (state : State) (moment : ℕ) (request : Request) → IsKept schema (durable state) → IsOfSchema schema request → IsKept schema (durable (step schema state moment request).1) }
+    ensures { (schema : Schema) (state : State) (moment : ℕ) (request : Request)
+        → IsKept schema (durable state) → IsOfSchema schema request
+        → IsKept schema (durable (step schema state moment request).1) }
 {}
 
 /// A change that may be played keeps well what outlives the process, where what its stored queries ask is such as the schema allows.
 pub fn playing_keeps_what_is_kept_well()
-    ensures { (schema : Schema) (kept : Durable) (change : Change) → IsKept schema kept → AreQueriesOf schema change → is_playable schema kept change ≡ true → IsKept schema (played_one kept change) }
+    ensures { (schema : Schema) (kept : Durable) (change : Change) → IsKept schema kept
+        → AreQueriesOf schema change → is_playable schema kept change ≡ true
+        → IsKept schema (played_one kept change) }
 {}
 
 /// The change that a step makes may be played, where no number that was given then is beyond the limit.
 pub fn changes_of_steps_may_be_played()
-    ensures { (schema : Schema) (state : State) (moment : ℕ) (request : Request) (change : Change) → IsKept schema (durable state) → IsOfSchema schema request → change_of schema state moment request ≡ Some change → All (λ n. n ≤ most_number) (step schema state moment request).1.counters → is_playable schema (durable state) change ≡ true }
+    ensures { (schema : Schema) (state : State) (moment : ℕ) (request : Request) (change : Change)
+        → IsKept schema (durable state) → IsOfSchema schema request
+        → change_of schema state moment request ≡ Some change
+        → All (λ n. n ≤ most_number) (step schema state moment request).1.counters
+        → is_playable schema (durable state) change ≡ true }
 {}

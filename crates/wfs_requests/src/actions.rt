@@ -22,7 +22,8 @@ fn replaced_by(
     element: &Element,
     rest: &[Element],
 ) -> Result<Action, AskFault>
-    ensures { GivesBut AskFault.OutOfMemory (λ action. action) result (replaced_by schema.now whole.now element.now rest.now) }
+    ensures { GivesBut AskFault.OutOfMemory (λ action. action) result
+        (replaced_by schema.now whole.now element.now rest.now) }
 {
     let feature = feature_of(alloc, schema, element)?;
     let filter = only_filter(alloc, schema, feature.id.kind, whole, rest)?;
@@ -37,7 +38,8 @@ fn replaced_by(
 // A Replace.
 #[tactic(auto, unfolding(crate::specs::Actions::replace_of))]
 fn replace_of(alloc: Global, schema: &Schema, element: &Element) -> Result<Action, AskFault>
-    ensures { GivesBut AskFault.OutOfMemory (λ action. action) result (replace_of schema.now element.now) }
+    ensures { GivesBut AskFault.OutOfMemory (λ action. action) result
+        (replace_of schema.now element.now) }
 {
     income_of(alloc, schema, element)?;
     income_others(alloc, element)?;
@@ -58,7 +60,8 @@ fn delete_others(alloc: Global, element: &Element) -> Result<(), AskFault>
 // A Delete.
 #[tactic(auto, unfolding(crate::specs::Actions::delete_of))]
 fn delete_of(alloc: Global, schema: &Schema, element: &Element) -> Result<Action, AskFault>
-    ensures { GivesBut AskFault.OutOfMemory (λ action. action) result (delete_of schema.now element.now) }
+    ensures { GivesBut AskFault.OutOfMemory (λ action. action) result
+        (delete_of schema.now element.now) }
 {
     let kind = type_of(alloc, schema, element)?;
     delete_others(alloc, element)?;
@@ -73,7 +76,8 @@ pub(crate) fn action_of(
     schema: &Schema,
     element: &Element,
 ) -> Result<Action, AskFault>
-    ensures { GivesBut AskFault.OutOfMemory (λ action. action) result (action_of schema.now element.now) }
+    ensures { GivesBut AskFault.OutOfMemory (λ action. action) result
+        (action_of schema.now element.now) }
 {
     if is_wfs(element, "Insert") {
         return insert_of(alloc, schema, element);

@@ -34,7 +34,8 @@ fn push_text(found: &mut Vec<Text>, text: Text) -> Mem<()>
 // Adds a Version.
 #[tactic(auto, unfolding(crate::specs::Capabilities::next_version, wfs_ends::specs::Read::unless))]
 fn add_version(alloc: Global, found: &mut Vec<Text>, element: &Element) -> Result<(), AskFault>
-    ensures { GivesBut AskFault.OutOfMemory (λ _. found.new.items) result (next_version found.old.items element.now) }
+    ensures { GivesBut AskFault.OutOfMemory (λ _. found.new.items) result
+        (next_version found.old.items element.now) }
 {
     if !is_ows(element, "Version") {
         return Err(misplaced(alloc, element));
@@ -46,7 +47,8 @@ fn add_version(alloc: Global, found: &mut Vec<Text>, element: &Element) -> Resul
 }
 
 fn all_versions(alloc: Global, elements: &[Element]) -> Result<Vec<Text>, AskFault>
-    ensures { GivesBut AskFault.OutOfMemory (λ v. v.items) result (each next_version [] elements.now) }
+    ensures { GivesBut AskFault.OutOfMemory (λ v. v.items) result
+        (each next_version [] elements.now) }
 {
     let mut found = Vec::new(alloc);
     for element in elements {
@@ -58,7 +60,8 @@ fn all_versions(alloc: Global, elements: &[Element]) -> Result<Vec<Text>, AskFau
 // The versions of an AcceptVersions.
 #[tactic(auto, unfolding(crate::specs::Capabilities::versions_in))]
 fn versions_in(alloc: Global, element: &Element) -> Result<List<Text>, AskFault>
-    ensures { GivesBut AskFault.OutOfMemory (λ versions. versions) result (versions_in element.now) }
+    ensures { GivesBut AskFault.OutOfMemory (λ versions. versions) result
+        (versions_in element.now) }
 {
     no_others(alloc, element, &[])?;
     let versions = all_versions(alloc, element.children.items())?;
@@ -72,7 +75,8 @@ fn with_versions(
     found: Option<List<Text>>,
     element: &Element,
 ) -> Result<Option<List<Text>>, AskFault>
-    ensures { GivesBut AskFault.OutOfMemory (λ found. found) result (with_versions found element.now) }
+    ensures { GivesBut AskFault.OutOfMemory (λ found. found) result
+        (with_versions found element.now) }
 {
     if !is_ows(element, "AcceptVersions") || found.is_some() {
         return Err(misplaced(alloc, element));
@@ -96,7 +100,8 @@ fn next_accepted(
     found: Option<List<Text>>,
     element: &Element,
 ) -> Result<Option<List<Text>>, AskFault>
-    ensures { GivesBut AskFault.OutOfMemory (λ found. found) result (next_accepted found element.now) }
+    ensures { GivesBut AskFault.OutOfMemory (λ found. found) result
+        (next_accepted found element.now) }
 {
     if is_passed_over(element) {
         return Ok(found);
@@ -105,7 +110,8 @@ fn next_accepted(
 }
 
 fn all_accepted(alloc: Global, elements: &[Element]) -> Result<Option<List<Text>>, AskFault>
-    ensures { GivesBut AskFault.OutOfMemory (λ found. found) result (each next_accepted None elements.now) }
+    ensures { GivesBut AskFault.OutOfMemory (λ found. found) result
+        (each next_accepted None elements.now) }
 {
     let mut found = None;
     for element in elements {
@@ -135,7 +141,8 @@ fn capabilities_others(alloc: Global, element: &Element) -> Result<(), AskFault>
 // A GetCapabilities.
 #[tactic(auto, unfolding(crate::specs::Capabilities::capabilities_of))]
 pub(crate) fn capabilities_of(alloc: Global, element: &Element) -> Result<Request, AskFault>
-    ensures { GivesBut AskFault.OutOfMemory (λ request. request) result (capabilities_of element.now) }
+    ensures { GivesBut AskFault.OutOfMemory (λ request. request) result
+        (capabilities_of element.now) }
 {
     base_of(alloc, element)?;
     capabilities_others(alloc, element)?;

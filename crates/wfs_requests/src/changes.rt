@@ -44,7 +44,8 @@ pub(crate) fn property_of(
     kind: Option<u32>,
     name: &str,
 ) -> Result<u32, AskFault>
-    ensures { GivesBut AskFault.OutOfMemory (λ place. place) result (property_of schema.now kind name.now) }
+    ensures { GivesBut AskFault.OutOfMemory (λ place. place) result
+        (property_of schema.now kind name.now) }
 {
     sought(alloc, name, property_in(type_in(schema, kind), name))
 }
@@ -59,7 +60,8 @@ pub(crate) fn selected(
     kind: u32,
     element: &Element,
 ) -> Result<Filter, AskFault>
-    ensures { GivesBut AskFault.OutOfMemory (λ filter. filter) result (selected schema.now kind element.now) }
+    ensures { GivesBut AskFault.OutOfMemory (λ filter. filter) result
+        (selected schema.now kind element.now) }
 {
     match read_filter(alloc, element, Some(kind), schema) {
         Ok(filter) => Ok(filter),
@@ -79,7 +81,8 @@ pub(crate) fn only_filter(
     action: &Element,
     elements: &[Element],
 ) -> Result<Filter, AskFault>
-    ensures { GivesBut AskFault.OutOfMemory (λ filter. filter) result (only_filter schema.now kind action.now elements.now) }
+    ensures { GivesBut AskFault.OutOfMemory (λ filter. filter) result
+        (only_filter schema.now kind action.now elements.now) }
 {
     let [element, rest @ ..] = elements else {
         return Err(misplaced(alloc, action));

@@ -27,7 +27,8 @@ fn add_type(
     found: &mut Vec<u32>,
     element: &Element,
 ) -> Result<(), AskFault>
-    ensures { GivesBut AskFault.OutOfMemory (λ _. found.new.items) result (next_type schema.now found.old.items element.now) }
+    ensures { GivesBut AskFault.OutOfMemory (λ _. found.new.items) result
+        (next_type schema.now found.old.items element.now) }
 {
     if !is_wfs(element, "TypeName") {
         return Err(misplaced(alloc, element));
@@ -40,7 +41,8 @@ fn add_type(
 }
 
 fn all_types(alloc: Global, schema: &Schema, elements: &[Element]) -> Result<Vec<u32>, AskFault>
-    ensures { GivesBut AskFault.OutOfMemory (λ v. v.items) result (each (next_type schema.now) [] elements.now) }
+    ensures { GivesBut AskFault.OutOfMemory (λ v. v.items) result
+        (each (next_type schema.now) [] elements.now) }
 {
     let mut found = Vec::new(alloc);
     for element in elements {
@@ -68,7 +70,8 @@ pub(crate) fn types_of(
     schema: &Schema,
     element: &Element,
 ) -> Result<Request, AskFault>
-    ensures { GivesBut AskFault.OutOfMemory (λ request. request) result (types_of schema.now element.now) }
+    ensures { GivesBut AskFault.OutOfMemory (λ request. request) result
+        (types_of schema.now element.now) }
 {
     base_of(alloc, element)?;
     format_of(alloc, "outputFormat", &Attributes { of: element })?;

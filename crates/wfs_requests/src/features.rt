@@ -49,7 +49,8 @@ fn value_of(
     property: &Property,
     element: &Element,
 ) -> Result<Value, AskFault>
-    ensures { GivesBut AskFault.OutOfMemory (λ v. v) result (value_of srs.now property.now element.now) }
+    ensures { GivesBut AskFault.OutOfMemory (λ v. v) result
+        (value_of srs.now property.now element.now) }
 {
     no_others(alloc, element, &[])?;
     if is_nil(element) {
@@ -119,7 +120,9 @@ fn add_value(
 ) -> Result<(), AskFault>
     requires met { length met.old.items ≡ length properties.now }
     requires values { length values.old.items ≡ length properties.now }
-    ensures gives { GivesBut AskFault.OutOfMemory (λ _. so_far met.new.items values.new.items) result (with_value srs.now (so_far met.old.items values.old.items) place element.now (slice_get properties.now place)) }
+    ensures gives { GivesBut AskFault.OutOfMemory (λ _. so_far met.new.items values.new.items)
+        result (with_value srs.now (so_far met.old.items values.old.items) place element.now
+        (slice_get properties.now place)) }
     ensures met { length met.new.items ≡ length properties.now }
     ensures values { length values.new.items ≡ length properties.now }
 {
@@ -147,7 +150,9 @@ fn next_value(
 ) -> Result<(), AskFault>
     requires met { length met.old.items ≡ length of_type.now.properties }
     requires values { length values.old.items ≡ length of_type.now.properties }
-    ensures gives { GivesBut AskFault.OutOfMemory (λ _. so_far met.new.items values.new.items) result (next_value schema.now of_type.now (so_far met.old.items values.old.items) element.now) }
+    ensures gives { GivesBut AskFault.OutOfMemory (λ _. so_far met.new.items values.new.items)
+        result (next_value schema.now of_type.now (so_far met.old.items values.old.items)
+        element.now) }
     ensures met { length met.new.items ≡ length of_type.now.properties }
     ensures values { length values.new.items ≡ length of_type.now.properties }
 {
@@ -180,7 +185,9 @@ fn all_values(
 ) -> Result<(), AskFault>
     requires met { length met.old.items ≡ length of_type.now.properties }
     requires values { length values.old.items ≡ length of_type.now.properties }
-    ensures gives { GivesBut AskFault.OutOfMemory (λ _. so_far met.new.items values.new.items) result (each (next_value schema.now of_type.now) (so_far met.old.items values.old.items) elements.now) }
+    ensures gives { GivesBut AskFault.OutOfMemory (λ _. so_far met.new.items values.new.items)
+        result (each (next_value schema.now of_type.now) (so_far met.old.items values.old.items)
+        elements.now) }
     ensures met { OnOk result (length met.new.items ≡ length of_type.now.properties) }
 {
     for element in elements {
@@ -220,7 +227,8 @@ pub(crate) fn values_of(
     of_type: &FeatureType,
     element: &Element,
 ) -> Result<Vec<Value>, AskFault>
-    ensures { GivesBut AskFault.OutOfMemory (λ v. v.items) result (values_of schema.now of_type.now element.now) }
+    ensures { GivesBut AskFault.OutOfMemory (λ v. v.items) result
+        (values_of schema.now of_type.now element.now) }
 {
     no_others(alloc, element, &[])?;
     let properties = of_type.properties.items();

@@ -34,7 +34,8 @@ fn add_asked(
     found: &mut Vec<Asked>,
     element: &Element,
 ) -> Result<(), AskFault>
-    ensures { GivesBut AskFault.OutOfMemory (λ _. found.new.items) result (next_asked schema.now found.old.items element.now) }
+    ensures { GivesBut AskFault.OutOfMemory (λ _. found.new.items) result
+        (next_asked schema.now found.old.items element.now) }
 {
     let asked = read_asked(alloc, element, schema)?;
     push_asked(found, asked)?;
@@ -42,7 +43,8 @@ fn add_asked(
 }
 
 fn asked_in(alloc: Global, schema: &Schema, elements: &[Element]) -> Result<Vec<Asked>, AskFault>
-    ensures { GivesBut AskFault.OutOfMemory (λ v. v.items) result (each (next_asked schema.now) [] elements.now) }
+    ensures { GivesBut AskFault.OutOfMemory (λ v. v.items) result
+        (each (next_asked schema.now) [] elements.now) }
 {
     let mut found = Vec::new(alloc);
     for element in elements {
@@ -54,7 +56,8 @@ fn asked_in(alloc: Global, schema: &Schema, elements: &[Element]) -> Result<Vec<
 // One query or more.
 #[tactic(auto, unfolding(crate::specs::Fetching::all_asked, wfs_ends::specs::Read::unless))]
 fn all_asked(alloc: Global, schema: &Schema, element: &Element) -> Result<List<Asked>, AskFault>
-    ensures { GivesBut AskFault.OutOfMemory (λ asked. asked) result (all_asked schema.now element.now) }
+    ensures { GivesBut AskFault.OutOfMemory (λ asked. asked) result
+        (all_asked schema.now element.now) }
 {
     let asked = asked_in(alloc, schema, element.children.items())?;
     if element.children.items().is_empty() {
@@ -93,7 +96,8 @@ pub(crate) fn features_of(
     schema: &Schema,
     element: &Element,
 ) -> Result<Request, AskFault>
-    ensures { GivesBut AskFault.OutOfMemory (λ request. request) result (features_of schema.now element.now) }
+    ensures { GivesBut AskFault.OutOfMemory (λ request. request) result
+        (features_of schema.now element.now) }
 {
     base_of(alloc, element)?;
     let page = page_of(alloc, &Attributes { of: element })?;
@@ -134,7 +138,8 @@ pub(crate) fn locked_of(
     schema: &Schema,
     element: &Element,
 ) -> Result<Request, AskFault>
-    ensures { GivesBut AskFault.OutOfMemory (λ request. request) result (locked_of schema.now element.now) }
+    ensures { GivesBut AskFault.OutOfMemory (λ request. request) result
+        (locked_of schema.now element.now) }
 {
     let said = Attributes { of: element };
     base_of(alloc, element)?;
@@ -180,7 +185,8 @@ fn new_lock(
     element: &Element,
     take: Take,
 ) -> Result<Request, AskFault>
-    ensures { GivesBut AskFault.OutOfMemory (λ request. request) result (new_lock schema.now element.now take) }
+    ensures { GivesBut AskFault.OutOfMemory (λ request. request) result
+        (new_lock schema.now element.now take) }
 {
     let asked = all_asked(alloc, schema, element)?;
     let period = period_of(alloc, &Attributes { of: element })?;
@@ -199,7 +205,8 @@ fn renewal(
     lock: LockId,
     period: Option<u32>,
 ) -> Result<Request, AskFault>
-    ensures { GivesBut AskFault.OutOfMemory (λ request. request) result (renewal element.now lock period) }
+    ensures { GivesBut AskFault.OutOfMemory (λ request. request) result
+        (renewal element.now lock period) }
 {
     if !element.children.items().is_empty() {
         return Err(refused(alloc, 11, "lockId"));
@@ -216,7 +223,8 @@ fn lock_for(
     take: Take,
     lock: Option<LockId>,
 ) -> Result<Request, AskFault>
-    ensures { GivesBut AskFault.OutOfMemory (λ request. request) result (lock_for schema.now element.now expiry take lock) }
+    ensures { GivesBut AskFault.OutOfMemory (λ request. request) result
+        (lock_for schema.now element.now expiry take lock) }
 {
     match lock {
         None => new_lock(alloc, schema, element, take),
@@ -231,7 +239,8 @@ pub(crate) fn lock_request(
     schema: &Schema,
     element: &Element,
 ) -> Result<Request, AskFault>
-    ensures { GivesBut AskFault.OutOfMemory (λ request. request) result (lock_request schema.now element.now) }
+    ensures { GivesBut AskFault.OutOfMemory (λ request. request) result
+        (lock_request schema.now element.now) }
 {
     let said = Attributes { of: element };
     base_of(alloc, element)?;
@@ -251,7 +260,8 @@ fn only_asked(
     whole: &Element,
     elements: &[Element],
 ) -> Result<Asked, AskFault>
-    ensures { GivesBut AskFault.OutOfMemory (λ asked. asked) result (only_asked schema.now whole.now elements.now) }
+    ensures { GivesBut AskFault.OutOfMemory (λ asked. asked) result
+        (only_asked schema.now whole.now elements.now) }
 {
     let [element, rest @ ..] = elements else {
         return Err(misplaced(alloc, whole));
@@ -263,7 +273,8 @@ fn only_asked(
 
 // The property of this name in the type of a query; beside a stored query it has no number yet.
 fn place_asked(alloc: Global, schema: &Schema, name: &str, asked: &Asked) -> Result<u32, AskFault>
-    ensures { GivesBut AskFault.OutOfMemory (λ place. place) result (place_asked schema.now name.now asked.now) }
+    ensures { GivesBut AskFault.OutOfMemory (λ place. place) result
+        (place_asked schema.now name.now asked.now) }
 {
     match asked {
         Asked::Plain(query) => property_of(alloc, schema, query.kind, name),
@@ -303,7 +314,8 @@ fn values_asked(
     name: Text,
     asked: Asked,
 ) -> Result<Request, AskFault>
-    ensures { GivesBut AskFault.OutOfMemory (λ request. request) result (values_asked schema.now present name asked) }
+    ensures { GivesBut AskFault.OutOfMemory (λ request. request) result
+        (values_asked schema.now present name asked) }
 {
     let place = place_asked(alloc, schema, name.as_str(), &asked)?;
     let asked = with_name(alloc, name, asked)?;
@@ -339,7 +351,8 @@ pub(crate) fn values_request(
     schema: &Schema,
     element: &Element,
 ) -> Result<Request, AskFault>
-    ensures { GivesBut AskFault.OutOfMemory (λ request. request) result (values_request schema.now element.now) }
+    ensures { GivesBut AskFault.OutOfMemory (λ request. request) result
+        (values_request schema.now element.now) }
 {
     let said = Attributes { of: element };
     base_of(alloc, element)?;

@@ -44,7 +44,8 @@ fn add_feature(
     found: &mut Vec<Feature>,
     element: &Element,
 ) -> Result<(), AskFault>
-    ensures { GivesBut AskFault.OutOfMemory (λ _. found.new.items) result (next_feature schema.now found.old.items element.now) }
+    ensures { GivesBut AskFault.OutOfMemory (λ _. found.new.items) result
+        (next_feature schema.now found.old.items element.now) }
 {
     let feature = feature_of(alloc, schema, element)?;
     push_feature(found, feature)?;
@@ -57,7 +58,8 @@ fn features_of(
     schema: &Schema,
     elements: &[Element],
 ) -> Result<Vec<Feature>, AskFault>
-    ensures { GivesBut AskFault.OutOfMemory (λ v. v.items) result (each (next_feature schema.now) [] elements.now) }
+    ensures { GivesBut AskFault.OutOfMemory (λ v. v.items) result
+        (each (next_feature schema.now) [] elements.now) }
 {
     let mut found = Vec::new(alloc);
     for element in elements {
@@ -73,7 +75,8 @@ pub(crate) fn insert_of(
     schema: &Schema,
     element: &Element,
 ) -> Result<Action, AskFault>
-    ensures { GivesBut AskFault.OutOfMemory (λ action. action) result (insert_of schema.now element.now) }
+    ensures { GivesBut AskFault.OutOfMemory (λ action. action) result
+        (insert_of schema.now element.now) }
 {
     income_of(alloc, schema, element)?;
     income_others(alloc, element)?;

@@ -41,7 +41,8 @@ fn request_by(
     root: &Element,
     operation: Operation,
 ) -> Result<Request, AskFault>
-    ensures { GivesBut AskFault.OutOfMemory (λ request. request) result (request_by schema.now root.now operation) }
+    ensures { GivesBut AskFault.OutOfMemory (λ request. request) result
+        (request_by schema.now root.now operation) }
 {
     match operation {
         Operation::GetCapabilities => capabilities_of(alloc, root),
@@ -61,7 +62,8 @@ fn request_by(
 // The request of a document's root.
 #[tactic(auto, unfolding(crate::specs::Requests::request_of))]
 fn request_of(alloc: Global, root: &Element, schema: &Schema) -> Result<Request, AskFault>
-    ensures { GivesBut AskFault.OutOfMemory (λ request. request) result (request_of root.now schema.now) }
+    ensures { GivesBut AskFault.OutOfMemory (λ request. request) result
+        (request_of root.now schema.now) }
 {
     let operation = root_of(alloc, root)?;
     request_by(alloc, schema, root, operation)
@@ -120,10 +122,12 @@ fn request_of(alloc: Global, root: &Element, schema: &Schema) -> Result<Request,
 /// name that a refusal points at.
 #[tactic(auto, using(crate::proofs::Allowed::request_is, crate::proofs::Kept::request_kept))]
 pub fn read_request(alloc: Global, root: &Element, schema: &Schema) -> Result<Request, AskFault>
-    ensures gives { GivesBut AskFault.OutOfMemory (λ request. request) result (request_of root.now schema.now) }
+    ensures gives { GivesBut AskFault.OutOfMemory (λ request. request) result
+        (request_of root.now schema.now) }
     ensures of_schema { IfOk result (λ request. IsOfSchema schema.now request) }
     // The texts of stored queries read back, where the schema is one of a schema file, and the root one of a document.
-    ensures kept { KeepsRules schema.now → IsInDocument root.now → IfOk result (λ request. All (IsKeptText schema.now) (stored_in request)) }
+    ensures kept { KeepsRules schema.now → IsInDocument root.now
+        → IfOk result (λ request. All (IsKeptText schema.now) (stored_in request)) }
 {
     request_of(alloc, root, schema)
 }

@@ -46,7 +46,8 @@ fn push_id(found: &mut Vec<Text>, id: Text) -> Mem<()>
 // Adds a StoredQueryId.
 #[tactic(auto, unfolding(crate::specs::StoredQueries::next_id, wfs_ends::specs::Read::unless))]
 fn add_id(alloc: Global, found: &mut Vec<Text>, element: &Element) -> Result<(), AskFault>
-    ensures { GivesBut AskFault.OutOfMemory (λ _. found.new.items) result (next_id found.old.items element.now) }
+    ensures { GivesBut AskFault.OutOfMemory (λ _. found.new.items) result
+        (next_id found.old.items element.now) }
 {
     if !is_wfs(element, "StoredQueryId") {
         return Err(misplaced(alloc, element));
@@ -93,7 +94,8 @@ fn add_stored(
     found: &mut Vec<StoredQuery>,
     element: &Element,
 ) -> Result<(), AskFault>
-    ensures { GivesBut AskFault.OutOfMemory (λ _. found.new.items) result (next_stored schema.now found.old.items element.now) }
+    ensures { GivesBut AskFault.OutOfMemory (λ _. found.new.items) result
+        (next_stored schema.now found.old.items element.now) }
 {
     let stored = read_definition(alloc, element, schema)?;
     push_stored(found, stored)?;
@@ -105,7 +107,8 @@ fn all_stored(
     schema: &Schema,
     elements: &[Element],
 ) -> Result<Vec<StoredQuery>, AskFault>
-    ensures { GivesBut AskFault.OutOfMemory (λ v. v.items) result (each (next_stored schema.now) [] elements.now) }
+    ensures { GivesBut AskFault.OutOfMemory (λ v. v.items) result
+        (each (next_stored schema.now) [] elements.now) }
 {
     let mut found = Vec::new(alloc);
     for element in elements {
@@ -121,7 +124,8 @@ pub(crate) fn created_of(
     schema: &Schema,
     element: &Element,
 ) -> Result<Request, AskFault>
-    ensures { GivesBut AskFault.OutOfMemory (λ request. request) result (created_of schema.now element.now) }
+    ensures { GivesBut AskFault.OutOfMemory (λ request. request) result
+        (created_of schema.now element.now) }
 {
     bare_of(alloc, element)?;
     let queries = all_stored(alloc, schema, element.children.items())?;

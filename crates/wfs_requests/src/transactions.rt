@@ -27,7 +27,8 @@ fn add_action(
     found: &mut Vec<Action>,
     element: &Element,
 ) -> Result<(), AskFault>
-    ensures { GivesBut AskFault.OutOfMemory (λ _. found.new.items) result (next_action schema.now found.old.items element.now) }
+    ensures { GivesBut AskFault.OutOfMemory (λ _. found.new.items) result
+        (next_action schema.now found.old.items element.now) }
 {
     let action = action_of(alloc, schema, element)?;
     push_action(found, action)?;
@@ -36,7 +37,8 @@ fn add_action(
 
 // The actions of a Transaction.
 fn actions_of(alloc: Global, schema: &Schema, elements: &[Element]) -> Result<Vec<Action>, AskFault>
-    ensures { GivesBut AskFault.OutOfMemory (λ v. v.items) result (each (next_action schema.now) [] elements.now) }
+    ensures { GivesBut AskFault.OutOfMemory (λ v. v.items) result
+        (each (next_action schema.now) [] elements.now) }
 {
     let mut found = Vec::new(alloc);
     for element in elements {
@@ -71,7 +73,8 @@ pub(crate) fn transaction_of(
     schema: &Schema,
     element: &Element,
 ) -> Result<Request, AskFault>
-    ensures { GivesBut AskFault.OutOfMemory (λ request. request) result (transaction_of schema.now element.now) }
+    ensures { GivesBut AskFault.OutOfMemory (λ request. request) result
+        (transaction_of schema.now element.now) }
 {
     let said = Attributes { of: element };
     base_of(alloc, element)?;

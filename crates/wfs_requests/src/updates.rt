@@ -59,7 +59,8 @@ fn set_content(
     property: &Property,
     element: &Element,
 ) -> Result<Value, AskFault>
-    ensures { GivesBut AskFault.OutOfMemory (λ value. value) result (set_content srs.now property.now element.now) }
+    ensures { GivesBut AskFault.OutOfMemory (λ value. value) result
+        (set_content srs.now property.now element.now) }
 {
     if is_shape(property.kind) && is_empty(element) {
         return null_of(alloc, property);
@@ -75,7 +76,8 @@ fn set_value(
     property: &Property,
     element: &Element,
 ) -> Result<Value, AskFault>
-    ensures { GivesBut AskFault.OutOfMemory (λ value. value) result (set_value srs.now property.now element.now) }
+    ensures { GivesBut AskFault.OutOfMemory (λ value. value) result
+        (set_value srs.now property.now element.now) }
 {
     if !is_wfs(element, "Value") {
         return Err(misplaced(alloc, element));
@@ -91,7 +93,8 @@ fn new_value(
     property: &Property,
     elements: &[Element],
 ) -> Result<Value, AskFault>
-    ensures { GivesBut AskFault.OutOfMemory (λ value. value) result (new_value srs.now property.now elements.now) }
+    ensures { GivesBut AskFault.OutOfMemory (λ value. value) result
+        (new_value srs.now property.now elements.now) }
 {
     let [element, rest @ ..] = elements else {
         return null_of(alloc, property);
@@ -109,7 +112,8 @@ fn value_at(
     property: Option<&Property>,
     elements: &[Element],
 ) -> Result<Value, AskFault>
-    ensures { GivesBut AskFault.OutOfMemory (λ value. value) result (value_at srs.now name.now (option_copied property.entry) elements.now) }
+    ensures { GivesBut AskFault.OutOfMemory (λ value. value) result
+        (value_at srs.now name.now (option_copied property.entry) elements.now) }
 {
     match property {
         None => Err(refused(alloc, 11, name)),
@@ -136,7 +140,8 @@ fn set_by(
     element: &Element,
     rest: &[Element],
 ) -> Result<(u32, Value), AskFault>
-    ensures { GivesBut AskFault.OutOfMemory (λ set. set) result (set_by schema.now kind element.now rest.now) }
+    ensures { GivesBut AskFault.OutOfMemory (λ set. set) result
+        (set_by schema.now kind element.now rest.now) }
 {
     let name = reference_of(alloc, element)?.as_str();
     let place = property_of(alloc, schema, Some(kind), name)?;
@@ -153,7 +158,8 @@ fn set_of(
     kind: u32,
     element: &Element,
 ) -> Result<(u32, Value), AskFault>
-    ensures { GivesBut AskFault.OutOfMemory (λ set. set) result (set_of schema.now kind element.now) }
+    ensures { GivesBut AskFault.OutOfMemory (λ set. set) result
+        (set_of schema.now kind element.now) }
 {
     no_others(alloc, element, &[])?;
     let [first, rest @ ..] = element.children.items() else {
@@ -180,7 +186,8 @@ fn add_set(
     filter: &Option<Filter>,
     element: &Element,
 ) -> Result<(), AskFault>
-    ensures { GivesBut AskFault.OutOfMemory (λ _. so_far sets.new.items filter.now) result (with_set schema.now kind (so_far sets.old.items filter.now) element.now) }
+    ensures { GivesBut AskFault.OutOfMemory (λ _. so_far sets.new.items filter.now) result
+        (with_set schema.now kind (so_far sets.old.items filter.now) element.now) }
 {
     if filter.is_some() {
         return Err(misplaced(alloc, element));
@@ -199,7 +206,8 @@ fn add_filter(
     filter: &mut Option<Filter>,
     element: &Element,
 ) -> Result<(), AskFault>
-    ensures { GivesBut AskFault.OutOfMemory (λ _. so_far sets.now filter.new) result (with_filter schema.now kind (so_far sets.now filter.old) element.now) }
+    ensures { GivesBut AskFault.OutOfMemory (λ _. so_far sets.now filter.new) result
+        (with_filter schema.now kind (so_far sets.now filter.old) element.now) }
 {
     if sets.is_empty() || filter.is_some() {
         return Err(misplaced(alloc, element));
@@ -218,7 +226,8 @@ fn add_change(
     filter: &mut Option<Filter>,
     element: &Element,
 ) -> Result<(), AskFault>
-    ensures { GivesBut AskFault.OutOfMemory (λ _. so_far sets.new.items filter.new) result (next_change schema.now kind (so_far sets.old.items filter.old) element.now) }
+    ensures { GivesBut AskFault.OutOfMemory (λ _. so_far sets.new.items filter.new) result
+        (next_change schema.now kind (so_far sets.old.items filter.old) element.now) }
 {
     if is_wfs(element, "Property") {
         return add_set(alloc, schema, kind, sets, filter, element);
@@ -235,7 +244,8 @@ fn all_changes(
     filter: &mut Option<Filter>,
     elements: &[Element],
 ) -> Result<(), AskFault>
-    ensures { GivesBut AskFault.OutOfMemory (λ _. so_far sets.new.items filter.new) result (each (next_change schema.now kind) (so_far sets.old.items filter.old) elements.now) }
+    ensures { GivesBut AskFault.OutOfMemory (λ _. so_far sets.new.items filter.new) result
+        (each (next_change schema.now kind) (so_far sets.old.items filter.old) elements.now) }
 {
     for element in elements {
         add_change(alloc, schema, kind, sets, filter, element)?;
@@ -250,7 +260,8 @@ fn changes_of(
     kind: u32,
     elements: &[Element],
 ) -> Result<(List<(u32, Value)>, Option<Filter>), AskFault>
-    ensures { GivesBut AskFault.OutOfMemory (λ x. so_far x.0 x.1) result (each (next_change schema.now kind) (so_far [] None) elements.now) }
+    ensures { GivesBut AskFault.OutOfMemory (λ x. so_far x.0 x.1) result
+        (each (next_change schema.now kind) (so_far [] None) elements.now) }
 {
     let mut sets = Vec::new(alloc);
     let mut filter = None;
@@ -261,7 +272,8 @@ fn changes_of(
 // Refuses an Update that says nothing.
 #[tactic(auto, unfolding(wfs_ends::specs::Read::unless))]
 fn says_something(alloc: Global, element: &Element) -> Result<(), AskFault>
-    ensures { GivesBut AskFault.OutOfMemory (λ x. x) result (unless (length (children_of element.now) == 0) (misplaced element.now)) }
+    ensures { GivesBut AskFault.OutOfMemory (λ x. x) result
+        (unless (length (children_of element.now) == 0) (misplaced element.now)) }
 {
     if element.children.items().is_empty() {
         return Err(misplaced(alloc, element));
@@ -288,7 +300,8 @@ pub(crate) fn update_of(
     schema: &Schema,
     element: &Element,
 ) -> Result<Action, AskFault>
-    ensures { GivesBut AskFault.OutOfMemory (λ action. action) result (update_of schema.now element.now) }
+    ensures { GivesBut AskFault.OutOfMemory (λ action. action) result
+        (update_of schema.now element.now) }
 {
     let kind = type_of(alloc, schema, element)?;
     income_of(alloc, schema, element)?;

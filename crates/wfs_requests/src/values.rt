@@ -27,7 +27,8 @@ fn shape_of(
     property: &Property,
     element: &Element,
 ) -> Result<Value, AskFault>
-    ensures { GivesBut AskFault.OutOfMemory (λ v. v) result (shape_of srs.now property.now element.now) }
+    ensures { GivesBut AskFault.OutOfMemory (λ v. v) result
+        (shape_of srs.now property.now element.now) }
 {
     match read_geometry(alloc, element, srs) {
         Ok(shape) => {
@@ -48,7 +49,8 @@ fn only_shape(
     property: &Property,
     elements: &[Element],
 ) -> Result<Value, AskFault>
-    ensures { GivesBut AskFault.OutOfMemory (λ v. v) result (only_shape srs.now property.now elements.now) }
+    ensures { GivesBut AskFault.OutOfMemory (λ v. v) result
+        (only_shape srs.now property.now elements.now) }
 {
     match elements {
         [element] => shape_of(alloc, srs, property, element),
@@ -79,7 +81,8 @@ pub(crate) fn content_of(
     property: &Property,
     element: &Element,
 ) -> Result<Value, AskFault>
-    ensures { GivesBut AskFault.OutOfMemory (λ v. v) result (content_of srs.now property.now element.now) }
+    ensures { GivesBut AskFault.OutOfMemory (λ v. v) result
+        (content_of srs.now property.now element.now) }
 {
     if is_shape(property.kind) {
         return only_shape(alloc, srs, property, element.children.items());

@@ -34,10 +34,15 @@ pub(crate) fn make_shorter<D: Disk>(
     side: &mut u64,
 ) -> Result<(), StepFault>
     requires empty { course.now.history.items ≡ [] }
-    requires store { (bodies : List (List ℕ)) × IsStore D.images course.now journal.old bodies side.old begun.old }
-    ensures store { (bodies : List (List ℕ)) → IsStore D.images course.now journal.old bodies side.old begun.old → IsStore D.images course.now journal.new bodies side.new begun.new }
-    ensures compacted { (bodies : List (List ℕ)) (tally : List ℕ) → IsStore D.images course.now journal.old bodies side.old begun.old
-        → IsCompactionOf D.moment D.since D.images D.faults (held_of course.now journal.old bodies side.old begun.old tally) result (held_of course.now journal.new bodies side.new begun.new tally) }
+    requires store { (bodies : List (List ℕ)) × IsStore D.images course.now journal.old bodies
+        side.old begun.old }
+    ensures store { (bodies : List (List ℕ)) → IsStore D.images course.now journal.old bodies
+        side.old begun.old → IsStore D.images course.now journal.new bodies side.new begun.new }
+    ensures compacted { (bodies : List (List ℕ)) (tally : List ℕ)
+        → IsStore D.images course.now journal.old bodies side.old begun.old
+        → IsCompactionOf D.moment D.since D.images D.faults
+        (held_of course.now journal.old bodies side.old begun.old tally) result
+        (held_of course.now journal.new bodies side.new begun.new tally) }
 {
     match mend(journal, begun) {
         Err(_) => Err(StepFault::StoreFault),

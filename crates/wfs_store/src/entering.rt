@@ -18,8 +18,10 @@ pub(crate) fn enter(course: &mut Course, entry: Entry, ready: Ready) -> Reply
     requires course { (opening : State) × IsCourse opening course.old }
     requires ready { IsReady entry ready course.old }
     ensures course { (opening : State) → IsCourse opening course.old → IsCourse opening course.new }
-    ensures entries { course.new.history.items ≡ course.old.history.items ++ record entry { moment = ready.moment } ∷ [] }
-    ensures step { (result, course.new.state.state) ≡ step course.old.state.schema course.old.state.state ready.moment entry.request }
+    ensures entries { course.new.history.items
+        ≡ course.old.history.items ++ record entry { moment = ready.moment } ∷ [] }
+    ensures step { (result, course.new.state.state)
+        ≡ step course.old.state.schema course.old.state.state ready.moment entry.request }
     ensures schema { course.new.state.schema ≡ course.old.state.schema }
     ensures limits { course.new.limits ≡ course.old.limits }
 {

@@ -26,9 +26,11 @@ pub fn inspect<D: Disk>(
     schema: &Schema,
     limits: &Limits,
 ) -> Result<Counts, OpenFault>
-    ensures counts { IfOk result (λ counts. (a b : List ℕ) → D.shown disks.old.a ≡ Some a → D.shown disks.old.b ≡ Some b
+    ensures counts { IfOk result (λ counts. (a b : List ℕ) → D.shown disks.old.a ≡ Some a
+        → D.shown disks.old.b ≡ Some b
         → AreCountsOf schema.now (outcome_of (verdict_on schema.now) limits.now.side a b) counts) }
-    ensures refused { IfErr result (λ fault. (a b : List ℕ) → D.shown disks.old.a ≡ Some a → D.shown disks.old.b ≡ Some b
+    ensures refused { IfErr result (λ fault. (a b : List ℕ) → D.shown disks.old.a ≡ Some a
+        → D.shown disks.old.b ≡ Some b
         → IsRefusedBy (outcome_of (verdict_on schema.now) limits.now.side a b) fault) }
     ensures unwritten { Untouched D.shown D.moment D.since D.images disks.old disks.new }
     ensures count { NoneFell D.faults disks.old disks.new }

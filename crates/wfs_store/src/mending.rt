@@ -19,13 +19,20 @@ pub(crate) fn mend<D: Disk>(
     journal: &mut Journal<D>,
     begun: &mut Option<Change>,
 ) -> Result<(), Failed>
-    requires { (schema : Schema) × (kept : Durable) × Keeps D.images schema kept begun.old journal.old }
-    ensures done { OnOk result ((schema : Schema) (kept : Durable) → Keeps D.images schema kept begun.old journal.old → Keeps D.images schema kept None journal.new) }
+    requires { (schema : Schema) × (kept : Durable)
+        × Keeps D.images schema kept begun.old journal.old }
+    ensures done { OnOk result ((schema : Schema) (kept : Durable)
+        → Keeps D.images schema kept begun.old journal.old
+        → Keeps D.images schema kept None journal.new) }
     ensures ended { OnOk result (begun.new ≡ None) }
-    ensures fault { OnErr result ((schema : Schema) (kept : Durable) → Keeps D.images schema kept begun.old journal.old → Keeps D.images schema kept begun.old journal.new) }
+    ensures fault { OnErr result ((schema : Schema) (kept : Durable)
+        → Keeps D.images schema kept begun.old journal.old
+        → Keeps D.images schema kept begun.old journal.new) }
     ensures begun { OnErr result (begun.new ≡ begun.old) }
-    ensures goes { (schema : Schema) (kept : Durable) → Keeps D.images schema kept begun.old journal.old
-        → Within D.moment D.since (SaysWith schema kept begun.old) (disks_of journal.old) (disks_of journal.new) }
+    ensures goes { (schema : Schema) (kept : Durable)
+        → Keeps D.images schema kept begun.old journal.old
+        → Within D.moment D.since (SaysWith schema kept begun.old) (disks_of journal.old)
+        (disks_of journal.new) }
     ensures same { SameSide journal.old journal.new }
     ensures count { NoneFell D.faults (disks_of journal.old) (disks_of journal.new) }
     ensures cause { OnErr result (OneRose D.faults (disks_of journal.old) (disks_of journal.new)) }

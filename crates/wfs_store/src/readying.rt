@@ -27,10 +27,12 @@ fn plan_within(course: &Course, entry: &Entry) -> Result<(u64, Plan), StepFault>
     requires change { IsChange entry.now.request }
     requires fitting { IsOfSchema course.now.state.schema entry.now.request }
     requires few { course.now.bytes ≤ course.now.limits.bytes }
-    ensures full { Judges (passed_by_count course.now.limits (length course.now.history.items) course.now.bytes entry.now.size) result }
+    ensures full { Judges (passed_by_count course.now.limits (length course.now.history.items)
+        course.now.bytes entry.now.size) result }
     ensures moment { IfOk result (λ p. p.0 ≡ moment_in course.now.state.state entry.now.moment) }
     ensures later { IfOk result (λ p. (course.now.state.state.last ≤ p.0) × (p.0 ≤ last_moment)) }
-    ensures plan { IfOk result (λ p. IsPlan course.now.state.schema course.now.state.state p.0 entry.now.request p.1) }
+    ensures plan { IfOk result (λ p. IsPlan course.now.state.schema course.now.state.state p.0
+        entry.now.request p.1) }
 {
     let count = course.history.len();
     if let Some(at) = passed_by_count(&course.limits, count, course.bytes, entry.size) {
@@ -49,9 +51,12 @@ fn judged(course: &mut Course, side: u64, entry: &Entry) -> Result<(u64, Plan), 
     requires within { side ≤ course.old.limits.side }
     ensures full { (opening : State) (start : ℕ) → IsCourse opening course.old
         → side ≡ length_after course.old.state.schema start opening course.old.history.items
-        → Judges (full_at course.old.state.schema (body_length course.old.state.schema) start opening course.old.limits course.old.history.items (timed course.old.state.state entry.now)) result }
+        → Judges (full_at course.old.state.schema (body_length course.old.state.schema) start
+        opening course.old.limits course.old.history.items
+        (timed course.old.state.state entry.now)) result }
     ensures ready { IfOk result (λ p. IsPlanned entry.now p.0 p.1 course.new) }
-    ensures spelled { IfOk result (λ p. IfSome p.1.change (IsSpelledFor course.old.state.schema side course.old.limits.side course.new.body.items)) }
+    ensures spelled { IfOk result (λ p. IfSome p.1.change
+        (IsSpelledFor course.old.state.schema side course.old.limits.side course.new.body.items)) }
     ensures same { SamePast course.old course.new }
 {
     let (moment, plan) = plan_within(course, entry)?;
@@ -92,9 +97,13 @@ pub(crate) fn make_ready(
     requires within { side ≤ course.old.limits.side }
     ensures full { (opening : State) (start : ℕ) → IsCourse opening course.old
         → side ≡ length_after course.old.state.schema start opening course.old.history.items
-        → Judges (full_at course.old.state.schema (body_length course.old.state.schema) start opening course.old.limits course.old.history.items (timed course.old.state.state entry.now)) result }
+        → Judges (full_at course.old.state.schema (body_length course.old.state.schema) start
+        opening course.old.limits course.old.history.items
+        (timed course.old.state.state entry.now)) result }
     ensures ready { IfOk result (λ r. IsReady entry.now r.0 course.new) }
-    ensures written { IfOk result (λ r. IfSome r.0.plan.change (IsWritable course.old.state.schema (durable course.old.state.state) side course.old.limits.side course.new.body.items)) }
+    ensures written { IfOk result (λ r. IfSome r.0.plan.change
+        (IsWritable course.old.state.schema (durable course.old.state.state) side
+        course.old.limits.side course.new.body.items)) }
     ensures taken { IfOk result (λ r. IsTaken entry.now r.0 r.1 course.old) }
     ensures same { SamePast course.old course.new }
 {

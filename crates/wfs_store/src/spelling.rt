@@ -27,8 +27,11 @@ fn spell_change(
     requires short { AreShort change.now }
     requires within { side ≤ limit }
     requires limit { limit ≤ 268_435_456 }
-    ensures full { (schema : Schema) → signature.now ≡ signature_text schema → Judges (at_limit Side (passes limit side (side + (5 + body_length schema change.now)))) result }
-    ensures spelled { (schema : Schema) → signature.now ≡ signature_text schema → OnOk result (IsSpelledFor schema side limit body.new.items change.now) }
+    ensures full { (schema : Schema) → signature.now ≡ signature_text schema
+        → Judges (at_limit Side (passes limit side (side + (5 + body_length schema change.now))))
+        result }
+    ensures spelled { (schema : Schema) → signature.now ≡ signature_text schema
+        → OnOk result (IsSpelledFor schema side limit body.new.items change.now) }
 {
     let size = record_length(change, signature);
     if size > limit || side + 5 + size > limit {
@@ -53,8 +56,10 @@ pub(crate) fn spell(
     requires short { IfSome change.now AreShort }
     requires within { side ≤ limit }
     requires limit { limit ≤ 268_435_456 }
-    ensures full { (schema : Schema) → signature.now ≡ signature_text schema → Judges (passed_by_side limit (body_length schema) side change.now) result }
-    ensures spelled { (schema : Schema) → signature.now ≡ signature_text schema → OnOk result (IfSome change.now (IsSpelledFor schema side limit body.new.items)) }
+    ensures full { (schema : Schema) → signature.now ≡ signature_text schema
+        → Judges (passed_by_side limit (body_length schema) side change.now) result }
+    ensures spelled { (schema : Schema) → signature.now ≡ signature_text schema
+        → OnOk result (IfSome change.now (IsSpelledFor schema side limit body.new.items)) }
 {
     match change {
         None => Ok(()),

@@ -88,19 +88,38 @@ impl<D: Disk> Store<D> {
     ) -> Result<Store<D>, (Pair<D>, OpenFault)>
         requires rules { KeepsRules schema.now }
         ensures begun { IfOk result (HasBegun schema.now limits) }
-        ensures opens { IfOk result (λ s. (a b : List ℕ) → D.shown disks.a ≡ Some a → D.shown disks.b ≡ Some b → OpensOn schema.now (outcome_of (verdict_on schema.now) limits.side a b) s.opening) }
+        ensures opens { IfOk result (λ s. (a b : List ℕ) → D.shown disks.a ≡ Some a
+            → D.shown disks.b ≡ Some b → OpensOn schema.now
+            (outcome_of (verdict_on schema.now) limits.side a b) s.opening) }
         ensures current { IfOk result (λ s. HoldsSome D.images s.current s.disks) }
-        ensures side { IfOk result (λ s. (a b : List ℕ) → D.shown disks.a ≡ Some a → D.shown disks.b ≡ Some b → IsOpenedSide D.images schema.now (outcome_of (verdict_on schema.now) limits.side a b) s.current s.side s.disks) }
-        ensures refused { IfErr result (λ e. (a b : List ℕ) → D.shown disks.a ≡ Some a → D.shown disks.b ≡ Some b → IsRefusal schema.now limits.side (outcome_of (verdict_on schema.now) limits.side a b) e.1) }
-        ensures unwritten { IfErr result (λ e. IsOfBytes e.1 → Untouched D.shown D.moment D.since D.images disks e.0) }
-        ensures goes { IfOk result (λ s. (a b : List ℕ) (lists : List (List (List ℕ))) (kept : Durable) → D.shown disks.a ≡ Some a → D.shown disks.b ≡ Some b → (s' : Says lists a b) → All (ComeTo schema.now kept) lists
-            → AfterSync D.shown D.moment D.since D.images (λ x y. WithTail lists s' x y ⊎ SaysOpened schema.now kept x y) disks s.disks) }
-        ensures goes_err { IfErr result (λ e. (a b : List ℕ) (lists : List (List (List ℕ))) (kept : Durable) → D.shown disks.a ≡ Some a → D.shown disks.b ≡ Some b → (s' : Says lists a b) → All (ComeTo schema.now kept) lists
-            → AfterSync D.shown D.moment D.since D.images (λ x y. WithTail lists s' x y ⊎ SaysOpened schema.now kept x y) disks e.0) }
-        ensures first { IfOk result (λ s. (a b : List ℕ) → D.shown disks.a ≡ Some a → D.shown disks.b ≡ Some b → Unmade a → Unmade b
-            → AfterSync D.shown D.moment D.since D.images (λ x y. Nothing x y ⊎ SaysOpened schema.now (nothing (length schema.now.types)) x y) disks s.disks) }
-        ensures first_err { IfErr result (λ e. (a b : List ℕ) → D.shown disks.a ≡ Some a → D.shown disks.b ≡ Some b → Unmade a → Unmade b
-            → AfterSync D.shown D.moment D.since D.images (λ x y. Nothing x y ⊎ SaysOpened schema.now (nothing (length schema.now.types)) x y) disks e.0) }
+        ensures side { IfOk result (λ s. (a b : List ℕ) → D.shown disks.a ≡ Some a
+            → D.shown disks.b ≡ Some b → IsOpenedSide D.images schema.now
+            (outcome_of (verdict_on schema.now) limits.side a b) s.current s.side s.disks) }
+        ensures refused { IfErr result (λ e. (a b : List ℕ) → D.shown disks.a ≡ Some a
+            → D.shown disks.b ≡ Some b → IsRefusal schema.now limits.side
+            (outcome_of (verdict_on schema.now) limits.side a b) e.1) }
+        ensures unwritten { IfErr result (λ e. IsOfBytes e.1
+            → Untouched D.shown D.moment D.since D.images disks e.0) }
+        ensures goes { IfOk result (λ s. (a b : List ℕ) (lists : List (List (List ℕ)))
+            (kept : Durable) → D.shown disks.a ≡ Some a → D.shown disks.b ≡ Some b
+            → (s' : Says lists a b) → All (ComeTo schema.now kept) lists
+            → AfterSync D.shown D.moment D.since D.images
+            (λ x y. WithTail lists s' x y ⊎ SaysOpened schema.now kept x y) disks s.disks) }
+        ensures goes_err { IfErr result (λ e. (a b : List ℕ) (lists : List (List (List ℕ)))
+            (kept : Durable) → D.shown disks.a ≡ Some a → D.shown disks.b ≡ Some b
+            → (s' : Says lists a b) → All (ComeTo schema.now kept) lists
+            → AfterSync D.shown D.moment D.since D.images
+            (λ x y. WithTail lists s' x y ⊎ SaysOpened schema.now kept x y) disks e.0) }
+        ensures first { IfOk result (λ s. (a b : List ℕ) → D.shown disks.a ≡ Some a
+            → D.shown disks.b ≡ Some b → Unmade a → Unmade b
+            → AfterSync D.shown D.moment D.since D.images
+            (λ x y. Nothing x y ⊎ SaysOpened schema.now (nothing (length schema.now.types)) x y)
+            disks s.disks) }
+        ensures first_err { IfErr result (λ e. (a b : List ℕ) → D.shown disks.a ≡ Some a
+            → D.shown disks.b ≡ Some b → Unmade a → Unmade b
+            → AfterSync D.shown D.moment D.since D.images
+            (λ x y. Nothing x y ⊎ SaysOpened schema.now (nothing (length schema.now.types)) x y)
+            disks e.0) }
         ensures count { IfOk result (λ s. NoneFell D.faults disks s.disks) }
         ensures count_err { IfErr result (λ e. NoneFell D.faults disks e.0) }
         ensures cause { IfErr result (λ e. e.1 ≡ OpenFault.DiskFault → OneRose D.faults disks e.0) }

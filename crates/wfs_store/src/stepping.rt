@@ -40,10 +40,16 @@ pub(crate) fn take_step<D: Disk>(
     requires fitting { IsOfSchema course.old.state.schema entry.request }
     requires texts { All (IsKeptText course.old.state.schema) (stored_in entry.request) }
     requires seat { entry.seat ≤ 16 }
-    requires store { (bodies : List (List ℕ)) × (side : ℕ) × IsStore D.images course.old journal.old bodies side begun.old }
-    ensures store { (bodies : List (List ℕ)) (side : ℕ) → IsStore D.images course.old journal.old bodies side begun.old → IsStore D.images course.new journal.new bodies side begun.new }
-    ensures step { (bodies : List (List ℕ)) (side : ℕ) → IsStore D.images course.old journal.old bodies side begun.old
-        → IsStepOf D.moment D.since D.faults (held_of course.old journal.old bodies side begun.old tally.old) entry result (held_of course.new journal.new bodies side begun.new tally.new) }
+    requires store { (bodies : List (List ℕ)) × (side : ℕ)
+        × IsStore D.images course.old journal.old bodies side begun.old }
+    ensures store { (bodies : List (List ℕ)) (side : ℕ)
+        → IsStore D.images course.old journal.old bodies side begun.old
+        → IsStore D.images course.new journal.new bodies side begun.new }
+    ensures step { (bodies : List (List ℕ)) (side : ℕ)
+        → IsStore D.images course.old journal.old bodies side begun.old
+        → IsStepOf D.moment D.since D.faults (held_of course.old journal.old bodies side begun.old
+        tally.old) entry result (held_of course.new journal.new bodies side begun.new
+        tally.new) }
 {
     stands(journal);
     let seat = entry.seat;

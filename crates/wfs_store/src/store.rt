@@ -58,7 +58,17 @@ impl<D: Disk> Model for Store<D> {
 
     ghost use Rattle.wfs_store.specs.Kept.{IsStore, opening_on};
 
-    ghost view = { λ s. record { schema = s.course.state.schema; limits = s.course.limits; opening = opening_on s.course.state.schema s.bodies; entries = s.course.history.items; side = s.side; current = current_in s.journal; begun = s.begun; tally = s.tally; disks = disks_of s.journal } };
+    ghost view = { λ s. record {
+      schema = s.course.state.schema;
+      limits = s.course.limits;
+      opening = opening_on s.course.state.schema s.bodies;
+      entries = s.course.history.items;
+      side = s.side;
+      current = current_in s.journal;
+      begun = s.begun;
+      tally = s.tally;
+      disks = disks_of s.journal;
+    } };
 
     ghost invariant = { λ s. IsStore D.images s.course s.journal s.bodies s.side s.begun };
 }
@@ -91,7 +101,8 @@ impl<D: Disk> Store<D> {
     pub fn read(&self, moment: u64, request: &Request) -> Mem<Reply>
         requires read { IsChange request.now → ⊥ }
         requires fitting { IsOfSchema self.now.schema request.now }
-        ensures { IfOk result (λ reply. reply ≡ read self.now.schema (kept_of self.now) (clamped moment) request.now) }
+        ensures { IfOk result (λ reply. reply ≡ read self.now.schema (kept_of self.now)
+            (clamped moment) request.now) }
     {
         self.course.state.read(moment, request)
     }
@@ -121,14 +132,16 @@ impl<D: Disk> Store<D> {
 
     /// The change that the last entry made; none where it made none, or where there is no entry.
     pub fn last_change(&self) -> Option<&Change>
-        ensures { option_map (λ change. change.now) result ≡ last_made self.now.schema self.now.opening self.now.entries }
+        ensures { option_map (λ change. change.now) result
+            ≡ last_made self.now.schema self.now.opening self.now.entries }
     {
         self.course.last.as_ref()
     }
 
     /// How long the journal's side is, up to and with its ending gate.
     pub fn side_length(&self) -> u64
-        ensures { result ≡ length_after self.now.schema self.now.side self.now.opening self.now.entries }
+        ensures { result ≡ length_after self.now.schema self.now.side self.now.opening
+            self.now.entries }
     {
         self.journal.side_length()
     }
@@ -163,7 +176,8 @@ impl<D: Disk> Store<D> {
 
 /// A crash now leaves what the history leaves, or that with the change that is begun. It is the contract of a function that does nothing.
 pub fn stands<D: Disk>(store: &Store<D>)
-    ensures { EveryBoth D.images (SaysWith store.now.schema (kept_of store.now) store.now.begun) store.now.disks }
+    ensures { EveryBoth D.images (SaysWith store.now.schema (kept_of store.now) store.now.begun)
+        store.now.disks }
 {
     durable_journal::stands(&store.journal);
 }

@@ -26,16 +26,25 @@ pub(crate) fn write<D: Disk>(
     body: &[u8],
     change: Option<Change>,
 ) -> Result<(), Failed>
-    requires keeps { (schema : Schema) × (kept : Durable) × (Keeps D.images schema kept begun.old journal.old × IfSome change (IsWritable schema kept (length_of journal.old) (limit_of journal.old) body.now)) }
-    ensures kept { (schema : Schema) (kept : Durable) → Keeps D.images schema kept begun.old journal.old
-        → IfSome change (IsWritable schema kept (length_of journal.old) (limit_of journal.old) body.now)
+    requires keeps { (schema : Schema) × (kept : Durable)
+        × (Keeps D.images schema kept begun.old journal.old
+        × IfSome change (IsWritable schema kept (length_of journal.old) (limit_of journal.old)
+        body.now)) }
+    ensures kept { (schema : Schema) (kept : Durable)
+        → Keeps D.images schema kept begun.old journal.old
+        → IfSome change (IsWritable schema kept (length_of journal.old) (limit_of journal.old)
+        body.now)
         → IsWritten D.images schema kept change result begun.new journal.new }
-    ensures goes { (schema : Schema) (kept : Durable) → Keeps D.images schema kept begun.old journal.old
-        → IfSome change (IsWritable schema kept (length_of journal.old) (limit_of journal.old) body.now)
-        → Always D.moment D.since (SaysEither schema kept begun.old change) (disks_of journal.old) (disks_of journal.new) }
+    ensures goes { (schema : Schema) (kept : Durable)
+        → Keeps D.images schema kept begun.old journal.old
+        → IfSome change (IsWritable schema kept (length_of journal.old) (limit_of journal.old)
+        body.now)
+        → Always D.moment D.since (SaysEither schema kept begun.old change) (disks_of journal.old)
+        (disks_of journal.new) }
     ensures done { OnOk result (begun.new ≡ begun_after change begun.old) }
     ensures fault { OnErr result (WasLeft begun.old change begun.new) }
-    ensures longer { OnOk result (length_of journal.new ≡ length_of journal.old + longer_by change body.now) }
+    ensures longer { OnOk result (length_of journal.new
+        ≡ length_of journal.old + longer_by change body.now) }
     ensures same { OnErr result (length_of journal.new ≡ length_of journal.old) }
     ensures limit { limit_of journal.new ≡ limit_of journal.old }
     ensures current { current_in journal.new ≡ current_in journal.old }

@@ -40,7 +40,8 @@ pub(crate) fn asked_of<'a>(words: &'a [String]) -> Option<Asked<'a>>
 /// What this command's words ask for.
 #[tactic(auto, unfolding(crate::specs::Words::command_of))]
 fn command_of<'a>(word: &str, words: &'a [String]) -> Option<Asked<'a>>
-    ensures { option_map view_asked result ≡ command_of word.now (map string_bytes words.entry.now) }
+    ensures { option_map view_asked result ≡ command_of word.now
+        (map string_bytes words.entry.now) }
 {
     if is_same(word, "talk") {
         in_directory(Task::Talk, words)
@@ -60,7 +61,8 @@ fn command_of<'a>(word: &str, words: &'a [String]) -> Option<Asked<'a>>
 /// A command whose one word is its directory.
 #[tactic(auto, unfolding(crate::specs::Words::in_directory))]
 fn in_directory<'a>(task: Task<'a>, words: &'a [String]) -> Option<Asked<'a>>
-    ensures { option_map view_asked result ≡ in_directory (command_for task.entry) (map string_bytes words.entry.now) }
+    ensures { option_map view_asked result ≡ in_directory (command_for task.entry)
+        (map string_bytes words.entry.now) }
 {
     match only_word(words) {
         Some(directory) => {
@@ -120,7 +122,8 @@ fn serve_with<'a>(
     limit: Option<&str>,
     directory: &'a str,
 ) -> Option<Asked<'a>>
-    ensures { option_map view_asked result ≡ serve_with listen.now count.now (option_map (λ t. t.now) limit.entry) directory.now }
+    ensures { option_map view_asked result ≡ serve_with listen.now count.now
+        (option_map (λ t. t.now) limit.entry) directory.now }
 {
     if listen.is_empty() {
         return None;
@@ -158,7 +161,8 @@ fn limit_of(text: Option<&str>) -> Option<Option<u32>>
 /// The first word, and the words behind it.
 #[tactic(auto, using(crate::proofs::Firsts::first_some, crate::proofs::Firsts::first_none))]
 fn first_word<'a>(words: &'a [String]) -> Option<(&'a str, &'a [String])>
-    ensures { option_map (λ p. (p.0.now, map string_bytes p.1.now)) result ≡ first_word (map string_bytes words.entry.now) }
+    ensures { option_map (λ p. (p.0.now, map string_bytes p.1.now)) result
+        ≡ first_word (map string_bytes words.entry.now) }
 {
     match words.split_first() {
         Some((word, more)) => Some((word.as_str(), more)),

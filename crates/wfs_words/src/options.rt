@@ -104,7 +104,8 @@ fn step<'a>(before: State<'a>, word: &'a str) -> Option<State<'a>>
 /// A word where an option waits for its value.
 #[tactic(auto, unfolding(crate::specs::Words::value_word))]
 fn value_word<'a>(name: Name, word: &'a str, found: Found<'a>) -> Option<State<'a>>
-    ensures { option_map view_state result ≡ value_word name (long_of word.now) word.now (view_texts found.entry) }
+    ensures { option_map view_state result ≡ value_word name (long_of word.now) word.now
+        (view_texts found.entry) }
 {
     match long_of(word) {
         Some(_) => None,
@@ -115,7 +116,8 @@ fn value_word<'a>(name: Name, word: &'a str, found: Found<'a>) -> Option<State<'
 /// A word where none does: an option with its value or without, or the directory.
 #[tactic(auto, unfolding(crate::specs::Words::open_word))]
 fn open_word<'a>(word: &'a str, found: Found<'a>) -> Option<State<'a>>
-    ensures { option_map view_state result ≡ open_word (long_of word.now) word.now (view_texts found.entry) }
+    ensures { option_map view_state result ≡ open_word (long_of word.now) word.now
+        (view_texts found.entry) }
 {
     match long_of(word) {
         Some((name, Some(value))) => match name_of(name) {

@@ -12,8 +12,10 @@ use wfs_ends::Text;
 ///
 /// `Refused` comes exactly where they are not those of a command; `OutOfMemory` is tied to no cause.
 pub fn read_words(alloc: Global, words: &[String]) -> Result<Command, WordFault>
-    ensures command { IfOk result (λ c. option_map (λ a. a.command) (asked_of (map string_bytes words.now)) ≡ Some c) }
-    ensures refused { result ≡ Err WordFault.Refused → asked_of (map string_bytes words.now) ≡ None }
+    ensures command { IfOk result (λ c. option_map (λ a. a.command)
+        (asked_of (map string_bytes words.now)) ≡ Some c) }
+    ensures refused { result ≡ Err WordFault.Refused
+        → asked_of (map string_bytes words.now) ≡ None }
 {
     match asked_by_clap(alloc, words) {
         Ok(asked) => command_for(alloc, asked.task),

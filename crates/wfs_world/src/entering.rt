@@ -51,7 +51,8 @@ impl Scene {
 
     /// Whether a seat may read the state after so many entries.
     pub fn may_read(&self, seat: u32, front: u64, request: &Request) -> bool
-        ensures { (moment : ℕ) → IsTrue result ↔ MayHappen self.now (Read seat front moment request.now) }
+        ensures { (moment : ℕ) → IsTrue result
+            ↔ MayHappen self.now (Read seat front moment request.now) }
     {
         if !self.is_up || request.is_change() || front > self.entries.len() as u64 {
             return false;

@@ -18,17 +18,20 @@ pub fn whatever_happens_is_sound()
 /// The answers that were seen at the ends of turns since the opening began are, in order, the replies of the history; only the reply to a
 /// request that is still in turn has not been seen.
 pub fn answers_are_the_replies_of_the_history()
-    ensures { (events : List Event) (w : Scene) → IsReached events w → w.is_up ≡ true → AreReplied events w }
+    ensures { (events : List Event) (w : Scene) → IsReached events w → w.is_up ≡ true
+        → AreReplied events w }
 {}
 
 /// What has entered the history, and so all that was answered, stays in the journal whatever happens later, in order and with none
 /// skipped.
 pub fn what_has_entered_stays()
-    ensures { (events more : List Event) (w : Scene) → IsReached events w → w.is_up ≡ true → Stay w more }
+    ensures { (events more : List Event) (w : Scene) → IsReached events w → w.is_up ≡ true
+        → Stay w more }
 {}
 
 /// A new opening begins with what the journal's list up to the crash keeps, under the next number. The list has every change of the history
 /// before the crash, and so every one that was answered, in order and with none skipped, and at most one change more.
 pub fn a_new_opening_has_all_that_entered()
-    ensures { (events : List Event) (w : Scene) (with_begun : Bool) → IsReached events w → MayHappen w (Crash with_begun) → Recovers w with_begun }
+    ensures { (events : List Event) (w : Scene) (with_begun : Bool) → IsReached events w
+        → MayHappen w (Crash with_begun) → Recovers w with_begun }
 {}

@@ -18,7 +18,8 @@ impl Scene {
 
     // The process has ended. Only the journal stays.
     fn forget(&mut self)
-        ensures { self.new ≡ record (opened_on self.old.schema self.old.seats self.old.number self.old.journal) { is_up = false } }
+        ensures { self.new ≡ record (opened_on self.old.schema self.old.seats self.old.number
+            self.old.journal) { is_up = false } }
     {
         self.found = self.journal.len();
         self.entries.clear();

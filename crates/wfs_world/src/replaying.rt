@@ -15,7 +15,10 @@ use wfs_model::{Change, Entry};
 /// A machine that has just opened on a journal with these changes.
 pub(crate) fn open_on(alloc: Global, schema: &Schema, changes: &[Change], number: u64) -> Mem<Plain>
     requires { ArePlayed schema.now changes.now }
-    ensures { IfOk result (λ m. m ≡ record { schema = schema.now; state = opened (kept_by schema.now changes.now) number }) }
+    ensures { IfOk result (λ m. m ≡ record {
+      schema = schema.now;
+      state = opened (kept_by schema.now changes.now) number;
+    }) }
 {
     let mut machine = Plain::new(alloc, schema.copy(alloc)?)?;
     machine.reopen(0);
@@ -30,7 +33,8 @@ pub(crate) fn open_on(alloc: Global, schema: &Schema, changes: &[Change], number
 pub(crate) fn step_all(machine: &mut Plain, entries: &[Entry]) -> Mem<()>
     requires { AreSteps machine.old.schema machine.old.state entries.now }
     ensures schema { machine.new.schema ≡ machine.old.schema }
-    ensures state { OnOk result (machine.new.state ≡ after_all machine.old.schema machine.old.state entries.now) }
+    ensures state { OnOk result (machine.new.state
+        ≡ after_all machine.old.schema machine.old.state entries.now) }
 {
     for entry in entries {
         machine.step(entry)?;

@@ -39,7 +39,19 @@ impl Model for Scene {
 
     ghost coded = { Prim.hlevel (codes, filter_row.the_row.coded) };
 
-    ghost view = { λ w. record { schema = w.schema; seats = length w.fronts.items; number = w.number; found = take w.found w.journal.items; entries = w.entries.items; line = w.line.items; turn = w.turn; fronts = w.fronts.items; journal = w.journal.items; begun = w.begun; is_up = w.is_up } };
+    ghost view = { λ w. record {
+      schema = w.schema;
+      seats = length w.fronts.items;
+      number = w.number;
+      found = take w.found w.journal.items;
+      entries = w.entries.items;
+      line = w.line.items;
+      turn = w.turn;
+      fronts = w.fronts.items;
+      journal = w.journal.items;
+      begun = w.begun;
+      is_up = w.is_up;
+    } };
 
     ghost invariant = { λ w. w.found ≤ length w.journal.items };
 }

@@ -70,14 +70,16 @@ impl Scene {
 
     /// Whether a request of a seat may join the line.
     pub fn may_arrive(&self, seat: u32) -> bool
-        ensures { (moment size : ℕ) (request : Request) → IsTrue result ↔ MayHappen self.now (Arrive seat moment size request) }
+        ensures { (moment size : ℕ) (request : Request)
+            → IsTrue result ↔ MayHappen self.now (Arrive seat moment size request) }
     {
         self.is_up && (seat as usize) < self.fronts.len() && !self.is_waiting(seat)
     }
 
     /// A request joins the line.
     pub fn arrive(&mut self, entry: Entry) -> Mem<()>
-        ensures ok { OnOk result (self.new ≡ record self.old { line = self.old.line ++ entry ∷ [] }) }
+        ensures ok { OnOk result (self.new ≡ record
+            self.old { line = self.old.line ++ entry ∷ [] }) }
         ensures err { OnErr result (self.new ≡ self.old) }
     {
         match self.line.push_back(entry) {
@@ -107,7 +109,8 @@ impl Scene {
         ensures up { IfSome result (λ entry. self.now.is_up ≡ true) }
         ensures stage { IfSome result (λ entry. stage_of self.now seat ≡ Some (Taken entry.now)) }
         ensures change { IfSome result (λ entry. IsChange entry.now.request) }
-        ensures none { result ≡ None → (outcome : PutOutcome) → MayHappen self.now (Put seat outcome) → ⊥ }
+        ensures none { result ≡ None → (outcome : PutOutcome)
+            → MayHappen self.now (Put seat outcome) → ⊥ }
     {
         if !self.is_up {
             return None;

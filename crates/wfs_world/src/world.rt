@@ -64,7 +64,8 @@ impl World {
     /// A request joins the line.
     pub(crate) fn arrive(&mut self, entry: Entry) -> Result<Seen, WorldFault>
         requires { IsOfSchema self.old.schema entry.request }
-        ensures { Happens self.old (Arrive entry.seat entry.moment entry.size entry.request) result self.new }
+        ensures { Happens self.old (Arrive entry.seat entry.moment entry.size entry.request) result
+            self.new }
     {
         if !self.scene.may_arrive(entry.seat) {
             return Err(WorldFault::NotNow);
@@ -125,7 +126,9 @@ impl World {
         requires up { self.now.is_up ≡ true }
         requires read { IsChange request.now → ⊥ }
         requires front { front ≤ length self.now.entries }
-        ensures { IfOk result (λ reply. reply ≡ read self.now.schema (durable (after self.now.schema (opening_of self.now) self.now.entries front)) (clamped moment) request.now) }
+        ensures { IfOk result (λ reply. reply ≡ read self.now.schema
+            (durable (after self.now.schema (opening_of self.now) self.now.entries front))
+            (clamped moment) request.now) }
     {
         let entries = self.scene.entries();
         let front = front as usize;

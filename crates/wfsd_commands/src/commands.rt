@@ -93,7 +93,8 @@ fn compact_with<O: Sink, D: Disk>(
 fn shorten<O: Sink, D: Disk>(out: &mut O, store: Store<D>) -> Done<D>
     requires fresh { store.entries ≡ [] }
     requires rests { store.begun ≡ None }
-    ensures shortened { Shortened D.Disk store (O.sink out.old) result (O.sink out.new) ⊎ Unshortened D.Disk store (O.sink out.old) result (O.sink out.new) }
+    ensures shortened { Shortened D.Disk store (O.sink out.old) result (O.sink out.new)
+        ⊎ Unshortened D.Disk store (O.sink out.old) result (O.sink out.new) }
     ensures left { IfSome result.store (IsLeft D.Disk store.disks) }
 {
     let mut store = store;

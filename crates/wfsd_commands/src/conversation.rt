@@ -39,9 +39,23 @@ pub fn talk<Q: Source, I: Source, O: Sink, D: Disk, C: Clock>(
     clock: &mut C,
 ) -> Done<D>
     ensures talks { Talks D.Disk disks
-        (record { schema = Q.source schema.old; heard = record { input = I.source input.old; out = O.sink out.old; clock = C.moments clock.old } })
+        (record {
+          schema = Q.source schema.old;
+          heard = record {
+            input = I.source input.old;
+            out = O.sink out.old;
+            clock = C.moments clock.old;
+          };
+        })
         result
-        (record { schema = Q.source schema.new; heard = record { input = I.source input.new; out = O.sink out.new; clock = C.moments clock.new } }) }
+        (record {
+          schema = Q.source schema.new;
+          heard = record {
+            input = I.source input.new;
+            out = O.sink out.new;
+            clock = C.moments clock.new;
+          };
+        }) }
     ensures left { IfSome result.store (IsLeft D.Disk disks) }
 {
     match load_schema(alloc, schema) {
@@ -164,7 +178,8 @@ fn converse<I: Source, O: Sink, D: Disk, C: Clock>(
         result store.new
         (C.moments clock.new) (both (I.source input.new) (O.sink out.new)) }
     ensures becomes { StoreBecomes D.faults store.old store.new }
-    ensures goes { Always D.moment D.since (SaysOnTheWay D.moment D.since D.faults store.old store.new) store.old.disks store.new.disks }
+    ensures goes { Always D.moment D.since (SaysOnTheWay D.moment D.since D.faults store.old
+        store.new) store.old.disks store.new.disks }
 {
     let mut link = Joined {
         source: input,
@@ -190,7 +205,8 @@ fn converse_over<'a, I: Source, O: Sink, D: Disk, C: Clock>(
     ensures source { link.new.source.ghost_name ≡ link.old.source.ghost_name }
     ensures sink { link.new.sink.ghost_name ≡ link.old.sink.ghost_name }
     ensures becomes { StoreBecomes D.faults store.old store.new }
-    ensures goes { Always D.moment D.since (SaysOnTheWay D.moment D.since D.faults store.old store.new) store.old.disks store.new.disks }
+    ensures goes { Always D.moment D.since (SaysOnTheWay D.moment D.since D.faults store.old
+        store.new) store.old.disks store.new.disks }
 {
     solo_session(alloc, store, link, clock, reader, buffer)
 }

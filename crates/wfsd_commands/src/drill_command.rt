@@ -107,7 +107,8 @@ fn drill_on<O: Sink, D: Disk>(
     disks: Pair<D>,
 ) -> Done<D>
     requires rules { KeepsRules schema.now }
-    ensures drills { DrillsWith D.Disk schema.now rounds disks (O.sink out.old) result (O.sink out.new) }
+    ensures drills { DrillsWith D.Disk schema.now rounds disks (O.sink out.old) result
+        (O.sink out.new) }
     ensures left { IfSome result.store (IsLeft D.Disk disks) }
 {
     match start_store(alloc, disks, schema) {
@@ -128,7 +129,8 @@ fn drill_with<O: Sink, D: Disk>(
     requires rules { KeepsRules schema.now }
     requires fresh { store.entries ≡ [] }
     requires rests { store.begun ≡ None }
-    ensures drilled { SumsUp D.Disk rounds store (O.sink out.old) result (O.sink out.new) ⊎ Stops D.Disk rounds store (O.sink out.old) result (O.sink out.new) }
+    ensures drilled { SumsUp D.Disk rounds store (O.sink out.old) result (O.sink out.new)
+        ⊎ Stops D.Disk rounds store (O.sink out.old) result (O.sink out.new) }
     ensures left { IfSome result.store (IsLeft D.Disk store.disks) }
 {
     let mut store = store;
@@ -142,7 +144,8 @@ fn drill_with<O: Sink, D: Disk>(
 
 // Tells what a drill came to, where all its requests were carried out.
 fn sum_up<O: Sink, D: Disk>(out: &mut O, rounds: u32, store: Store<D>, sums: Sums) -> Done<D>
-    ensures { IsTold rounds store sums.matched sums.locked (O.sink out.old) result (O.sink out.new) }
+    ensures { IsTold rounds store sums.matched sums.locked (O.sink out.old) result
+        (O.sink out.new) }
 {
     let (Some(matched), Some(locked)) = (sums.matched, sums.locked) else {
         return stop(out, store, StepFault::OutOfMemory);

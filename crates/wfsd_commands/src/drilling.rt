@@ -67,7 +67,8 @@ fn run_round<D: Disk>(
     requires same { store.old.schema ≡ schema.now }
     requires rules { KeepsRules schema.now }
     requires kind { round.kind < length schema.now.types }
-    ensures all { CarriesAll D.faults (requests_of schema.now round) store.old sums.old result store.new sums.new }
+    ensures all { CarriesAll D.faults (requests_of schema.now round) store.old sums.old result
+        store.new sums.new }
     ensures schema { store.new.schema ≡ store.old.schema }
 {
     match requests_of(alloc, schema, round) {

@@ -29,7 +29,8 @@ pub enum Unloaded {
 /// Reads the schema from its source.
 pub fn load_schema<Q: Source>(alloc: Global, source: &mut Q) -> Result<Schema, Unloaded>
     ensures loaded { IsLoaded (Q.source source.old) result (Q.source source.new) }
-    ensures calm { (result ≡ Err Unloaded.Failed → ⊥) → IsCalm (Q.source source.old) (Q.source source.new) }
+    ensures calm { (result ≡ Err Unloaded.Failed → ⊥)
+        → IsCalm (Q.source source.old) (Q.source source.new) }
     ensures keeps { IfOk result KeepsRules }
 {
     match read_up_to(alloc, source, MOST_BYTES) {

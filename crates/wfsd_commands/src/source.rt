@@ -20,8 +20,10 @@ pub enum SourceRead {
 
 /// Reads a source to its end, or to the byte behind the most that it may have.
 pub fn read_up_to<Q: Source>(alloc: Global, source: &mut Q, most: u32) -> Mem<SourceRead>
-    ensures read { IfOk result (λ read. IsSourceRead most (Q.source source.old) read (Q.source source.new)) }
-    ensures calm { (result ≡ Ok SourceRead.Fault → ⊥) → IsCalm (Q.source source.old) (Q.source source.new) }
+    ensures read { IfOk result (λ read. IsSourceRead most (Q.source source.old) read
+        (Q.source source.new)) }
+    ensures calm { (result ≡ Ok SourceRead.Fault → ⊥)
+        → IsCalm (Q.source source.old) (Q.source source.new) }
 {
     let mut bytes = zeros(alloc, most as usize + 1)?;
     match fill(source, &mut bytes) {
@@ -57,7 +59,8 @@ enum Filled {
 fn fill<Q: Source>(source: &mut Q, bytes: &mut [u8]) -> Filled
     ensures filled { IsFilled bytes.new (Q.source source.old) result (Q.source source.new) }
     ensures size { length bytes.new ≡ length bytes.old }
-    ensures calm { (result ≡ Filled.Fault → ⊥) → IsCalm (Q.source source.old) (Q.source source.new) }
+    ensures calm { (result ≡ Filled.Fault → ⊥)
+        → IsCalm (Q.source source.old) (Q.source source.new) }
 {
     let mut done = 0;
     while done < bytes.len() {

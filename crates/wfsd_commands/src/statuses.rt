@@ -75,7 +75,8 @@ fn stopped_status(fault: StepFault) -> u8
 
 /// Says what a journal holds, and answers the status.
 pub fn say_counts<S: Sink>(sink: &mut S, counts: Counts) -> u8
-    ensures { EndsWith (S.sink sink.old) (counts_line counts.types counts.features counts.queries counts.openings) (S.sink sink.new) result }
+    ensures { EndsWith (S.sink sink.old) (counts_line counts.types counts.features counts.queries
+        counts.openings) (S.sink sink.new) result }
 {
     line_status(put_counts(
         sink,
@@ -102,7 +103,8 @@ pub fn say_rounds<S: Sink>(
     matched: u64,
     locked: u64,
 ) -> u8
-    ensures { EndsWith (S.sink sink.old) (rounds_line rounds entries features matched locked) (S.sink sink.new) result }
+    ensures { EndsWith (S.sink sink.old) (rounds_line rounds entries features matched locked)
+        (S.sink sink.new) result }
 {
     line_status(put_rounds(sink, rounds, entries, features, matched, locked))
 }

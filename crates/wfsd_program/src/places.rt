@@ -31,7 +31,8 @@ pub(crate) fn make_places<A: Drop, C: Clock + Drop>(
 // A twin of the clock for each worker.
 fn make_twins<C: Clock + Drop>(alloc: Global, workers: u32, clock: &C) -> Mem<Vec<C>>
     ensures number { IfOk result (λ clocks. length clocks.items ≡ workers) }
-    ensures twins { IfOk result (λ clocks. All (λ c. C.moments c ≡ C.moments clock.now) clocks.items) }
+    ensures twins { IfOk result (λ clocks. All (λ c. C.moments c ≡ C.moments clock.now)
+        clocks.items) }
 {
     let mut clocks = Vec::with_capacity(alloc, workers as usize)?;
     for _worker in 0..workers {

@@ -46,9 +46,29 @@ pub fn wfsd<
 where
     A::Link: Send,
     ensures runs { Runs D.Disk A.accepting C.moments (map string_bytes words.now) disks
-        (record { talk = record { schema = Q.source schema.old; heard = record { input = I.source input.old; out = O.sink out.old; clock = C.moments clock.old } }; doors = G.listening doors.old })
+        (record {
+          talk = record {
+            schema = Q.source schema.old;
+            heard = record {
+              input = I.source input.old;
+              out = O.sink out.old;
+              clock = C.moments clock.old;
+            };
+          };
+          doors = G.listening doors.old;
+        })
         result
-        (record { talk = record { schema = Q.source schema.new; heard = record { input = I.source input.new; out = O.sink out.new; clock = C.moments clock.new } }; doors = G.listening doors.new }) }
+        (record {
+          talk = record {
+            schema = Q.source schema.new;
+            heard = record {
+              input = I.source input.new;
+              out = O.sink out.new;
+              clock = C.moments clock.new;
+            };
+          };
+          doors = G.listening doors.new;
+        }) }
     ensures left { IfSome result.store (IsLeftStanding D.Disk disks) }
 {
     match read_words(alloc, words) {

@@ -53,9 +53,15 @@ where
     A::Link: Send,
     requires workers { HasWorkers wanted.now }
     ensures serves { Serves D.Disk A.accepting C.moments wanted.now (C.moments clock.now) disks
-        (record { own = record { schema = Q.source schema.old; out = O.sink out.old }; doors = G.listening doors.old })
+        (record {
+          own = record { schema = Q.source schema.old; out = O.sink out.old };
+          doors = G.listening doors.old;
+        })
         result
-        (record { own = record { schema = Q.source schema.new; out = O.sink out.new }; doors = G.listening doors.new }) }
+        (record {
+          own = record { schema = Q.source schema.new; out = O.sink out.new };
+          doors = G.listening doors.new;
+        }) }
     ensures left { IfSome result.store (IsLeftStanding D.Disk disks) }
 {
     match load_schema(alloc, schema) {
@@ -86,7 +92,8 @@ where
     A::Link: Send,
     requires rules { KeepsRules schema.now }
     requires workers { HasWorkers wanted.now }
-    ensures serves { MayServe D.Disk A.accepting C.moments wanted.now (C.moments clock.now) schema.now disks
+    ensures serves { MayServe D.Disk A.accepting C.moments wanted.now (C.moments clock.now)
+        schema.now disks
         (record { out = O.sink out.old; doors = G.listening doors.old })
         result
         (record { out = O.sink out.new; doors = G.listening doors.new }) }
@@ -122,7 +129,8 @@ where
     requires rules { KeepsRules schema.now }
     requires workers { HasWorkers wanted.now }
     requires places { AreFor C.moments wanted.now.workers (C.moments clock.now) places }
-    ensures serves { ServesOn D.Disk A.accepting C.moments wanted.now (C.moments clock.now) schema.now disks
+    ensures serves { ServesOn D.Disk A.accepting C.moments wanted.now (C.moments clock.now)
+        schema.now disks
         (record { out = O.sink out.old; doors = G.listening doors.old })
         result
         (record { out = O.sink out.new; doors = G.listening doors.new }) }
@@ -199,7 +207,8 @@ where
     requires some { 1 ≤ length slots.items }
     requires most { length slots.items ≤ 16 }
     requires fresh { HasBegun schema.now store.limits store }
-    ensures serves { ServesLinks D.Disk A.accepting C.moments limit store slots.items (O.sink out.old) result (O.sink out.new) }
+    ensures serves { ServesLinks D.Disk A.accepting C.moments limit store slots.items
+        (O.sink out.old) result (O.sink out.new) }
     ensures left { IfSome result.store (IsLeftStanding D.Disk store.disks) }
 {
     if put_serving(out) {
@@ -230,7 +239,8 @@ where
     requires some { 1 ≤ length slots.items }
     requires most { length slots.items ≤ 16 }
     requires fresh { HasBegun schema.now store.limits store }
-    ensures serves { ServesTold D.Disk A.accepting C.moments limit store slots.items (O.sink out.old) result (O.sink out.new) }
+    ensures serves { ServesTold D.Disk A.accepting C.moments limit store slots.items
+        (O.sink out.old) result (O.sink out.new) }
     ensures left { IfSome result.store (IsLeftStanding D.Disk store.disks) }
 {
     match store_service::serve(rt, alloc, store, schema, slots, limit) {

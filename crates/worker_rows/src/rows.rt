@@ -162,7 +162,8 @@ fn no_files(alloc: Global) -> Mem<Pair<MemDisk>> {
 // The store on two files.
 fn start(alloc: Global, disks: Pair<MemDisk>, schema: &Schema) -> Mem<Store<MemDisk>>
     requires { KeepsRules schema.now }
-    ensures { IfOk result (λ store. (store.schema ≡ schema.now) × (store.entries ≡ []) × (store.tally ≡ replicate 17 0)) }
+    ensures { IfOk result (λ store. (store.schema ≡ schema.now) × (store.entries ≡ [])
+        × (store.tally ≡ replicate 17 0)) }
 {
     match Store::start(alloc, disks, schema, Limits::stated()) {
         Ok(store) => Ok(store),

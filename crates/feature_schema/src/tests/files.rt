@@ -1,4 +1,4 @@
-// The schema files of the tests, each with the line by which it is told behind `schema refused: `, or `Ok`.
+//! The schema files of the tests, each with the line by which it is told behind `schema refused: `, or `Ok`.
 
 pub const MARKS: &str = r#"title = "Marks"
 address = "http://localhost:8080/wfs"

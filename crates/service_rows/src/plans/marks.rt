@@ -24,8 +24,10 @@ pub fn counters(alloc: Global) -> Mem<List<u64>>
 #[tactic(auto, using(request_plans::proofs::Marks::are_three))]
 pub fn three_marks<'a>(alloc: Global, nothing: &'a Nothing) -> Mem<Overlay<'a, Nothing>>
     requires { AreMarks nothing.now.schema }
-    ensures schema { IfOk result (λ view. ⟦<Overlay<'a, Nothing> as FeatureView>⟧.schema view ≡ nothing.now.schema) }
-    ensures kept { IfOk result (λ view. AreThree nothing.now.schema (⟦<Overlay<'a, Nothing> as FeatureView>⟧.features view)) }
+    ensures schema { IfOk result (λ view. ⟦<Overlay<'a, Nothing> as FeatureView>⟧.schema view
+        ≡ nothing.now.schema) }
+    ensures kept { IfOk result (λ view. AreThree nothing.now.schema
+        (⟦<Overlay<'a, Nothing> as FeatureView>⟧.features view)) }
 {
     let mut overlay = Overlay::over(alloc, nothing);
     overlay.put(allowed(alloc, &nothing.schema, 1, 10)?)?;

@@ -20,7 +20,8 @@ pub fn counters(alloc: Global) -> Mem<List<u64>>
 
 /// Mark.1 of size 10 and Mark.2 of size 20.
 pub fn two_marks<'a>(alloc: Global, nothing: &'a Nothing) -> Mem<Overlay<'a, Nothing>>
-    ensures { IfOk result (λ view. ⟦<Overlay<'a, Nothing> as FeatureView>⟧.schema view ≡ nothing.now.schema) }
+    ensures { IfOk result (λ view. ⟦<Overlay<'a, Nothing> as FeatureView>⟧.schema view
+        ≡ nothing.now.schema) }
 {
     let mut overlay = Overlay::over(alloc, nothing);
     overlay.put(allowed(alloc, &nothing.schema, 1, 10)?)?;

@@ -26,7 +26,11 @@ use wfs_model::Change;
 
 // What is published first.
 fn first_shown(seen: &Seen<Pair, (), Law>, snapshot: &Snapshot) -> Mem<Shown>
-    ensures { IfOk result (λ x. x ≡ record { front = 0; snapshot = snapshot.now; seen = seen.now }) }
+    ensures { IfOk result (λ x. x ≡ record {
+      front = 0;
+      snapshot = snapshot.now;
+      seen = seen.now;
+    }) }
 {
     Ok(Shown {
         front: 0,
@@ -42,7 +46,8 @@ fn push_viewer(writer: &mut Copies, seen: &Seen<Pair, (), Law>, viewers: &mut Ve
     requires room { length viewers.old.items < vec_capacity viewers.old }
     requires all { AreNew seen.now.book (schema_in seen.now.log) viewers.old.items }
     ensures shown { writer.new.desk.shown.value ≡ writer.old.desk.shown.value }
-    ensures waiting { drop writer.new.behind writer.new.log.items ≡ drop writer.old.behind writer.old.log.items }
+    ensures waiting { drop writer.new.behind writer.new.log.items
+        ≡ drop writer.old.behind writer.old.log.items }
     ensures view { view writer.new.desk.place ≡ view writer.old.desk.place }
     ensures count { length viewers.new.items ≡ length viewers.old.items + 1 }
     ensures room { vec_capacity viewers.old ≤ vec_capacity viewers.new }
@@ -60,10 +65,12 @@ fn push_viewers(
     count: u32,
 )
     requires some { 0 < length seen.now.log }
-    requires sound { Sound seen.now.log seen.now.book writer.old.desk.shown.value (drop writer.old.behind writer.old.log.items) (view writer.old.desk.place) }
+    requires sound { Sound seen.now.log seen.now.book writer.old.desk.shown.value
+        (drop writer.old.behind writer.old.log.items) (view writer.old.desk.place) }
     requires none { viewers.old.items ≡ [] }
     requires room { count ≤ vec_capacity viewers.old }
-    ensures sound { Sound seen.now.log seen.now.book writer.new.desk.shown.value (drop writer.new.behind writer.new.log.items) (view writer.new.desk.place) }
+    ensures sound { Sound seen.now.log seen.now.book writer.new.desk.shown.value
+        (drop writer.new.behind writer.new.log.items) (view writer.new.desk.place) }
     ensures shown { writer.new.desk.shown.value ≡ writer.old.desk.shown.value }
     ensures count { length viewers.new.items ≡ count }
     ensures all { AreNew seen.now.book (schema_in seen.now.log) viewers.new.items }
@@ -83,8 +90,10 @@ fn first_copies<R: Wait>(
 ) -> Mem<Copies>
     requires some { 0 < viewers }
     requires given { seen.now.log ≡ pair 0 (content_of features.now) ∷ [] }
-    ensures sound { IfOk result (λ w. Sound seen.now.log seen.now.book w.desk.shown.value (drop w.behind w.log.items) (view w.desk.place)) }
-    ensures shown { IfOk result (λ w. pair_of w.desk.shown.value ≡ pair 0 (content_of features.now)) }
+    ensures sound { IfOk result (λ w. Sound seen.now.log seen.now.book w.desk.shown.value
+        (drop w.behind w.log.items) (view w.desk.place)) }
+    ensures shown { IfOk result (λ w. pair_of w.desk.shown.value
+        ≡ pair 0 (content_of features.now)) }
 {
     let snapshot = Snapshot::of(alloc, features.copy(alloc)?)?;
     let first = first_shown(seen, &snapshot)?;
@@ -155,12 +164,15 @@ impl Publisher {
     ) -> Mem<()>
         requires next { front ≡ length (given_of self.old) }
         requires schema { now.now.schema ≡ schema_in (given_of self.old) }
-        requires change { IsAbreast self.old → Follows (option_copied change) (shown_of self.old).content now.now }
+        requires change { IsAbreast self.old → Follows (option_copied change)
+            (shown_of self.old).content now.now }
         ensures history { self.new.seen.book ≡ self.old.seen.book }
-        ensures given { given_of self.new ≡ given_of self.old ++ pair front (content_of now.now) ∷ [] }
+        ensures given { given_of self.new ≡ given_of self.old
+            ++ pair front (content_of now.now) ∷ [] }
         ensures ok { OnOk result (shown_of self.new ≡ pair front (content_of now.now)) }
         ensures abreast { OnOk result (IsAbreast self.new) }
-        ensures err { OnErr result ((shown_of self.new ≡ shown_of self.old) ⊎ (shown_of self.new ≡ pair front (content_of now.now))) }
+        ensures err { OnErr result ((shown_of self.new ≡ shown_of self.old)
+            ⊎ (shown_of self.new ≡ pair front (content_of now.now))) }
         ensures behind { OnErr result (IsBehind self.new) }
     {
         add(rt, &self.head, &mut self.seen, front, now);
@@ -189,7 +201,8 @@ impl Publisher {
         ensures same { IsSame viewer.old viewer.new }
         ensures told { viewer.new.told ≡ max viewer.old.told (shown_of self.now).front }
         ensures entered { entered_of viewer.new ≡ entered_of viewer.old }
-        ensures known { All (λ p. p.front < length (given_of self.now) → Stands (given_of self.now) p) (entered_of viewer.new) }
+        ensures known { All (λ p. p.front < length (given_of self.now)
+            → Stands (given_of self.now) p) (entered_of viewer.new) }
     {
         viewer.tell(self.shown());
         viewer.learn(&self.seen);

@@ -63,7 +63,8 @@ fn enter(
     ensures entered { All (Stands seen.new.log) (view result.0.place).entered }
     ensures book { seen.new.book ≡ seen.old.book }
     ensures more { IsPrefix seen.old.log seen.new.log }
-    ensures reads { ReadsAs told moment request.now (view reader.place).entered result.1 (view result.0.place).entered }
+    ensures reads { ReadsAs told moment request.now (view reader.place).entered result.1
+        (view result.0.place).entered }
 {
     let reading = match reader.enter_as::<Reads>() {
         Ok(reading) => reading,
@@ -98,7 +99,8 @@ impl Viewer {
         requires { IsChange request.now → ⊥ }
         ensures same { IsSame self.old self.new }
         ensures told { self.new.told ≡ self.old.told }
-        ensures reads { ReadsAs self.old.told moment request.now (entered_of self.old) result (entered_of self.new) }
+        ensures reads { ReadsAs self.old.told moment request.now (entered_of self.old) result
+            (entered_of self.new) }
         ensures given { All (Stands self.new.seen.log) (entered_of self.new) }
         ensures pairs { All (IsPairOf (schema_of self.new)) (entered_of self.new) }
     {
@@ -119,7 +121,8 @@ impl Viewer {
         ensures same { IsSame self.old self.new }
         ensures told { self.new.told ≡ self.old.told }
         ensures entered { entered_of self.new ≡ entered_of self.old }
-        ensures known { All (λ p. p.front < length seen.now.log → Stands seen.now.log p) (entered_of self.new) }
+        ensures known { All (λ p. p.front < length seen.now.log → Stands seen.now.log p)
+            (entered_of self.new) }
     {
         self.seen.learn(seen);
     }

@@ -18,8 +18,10 @@ impl<D: Disk> Counter<D> {
     /// A store without a history, with a publisher that was given what it keeps, and no more.
     pub fn of(store: Store<D>, publisher: Publisher) -> Counter<D>
         requires fresh { store.entries ≡ [] }
-        requires given { given_of publisher ≡ pair 0 (record { schema = store.schema; kept = kept_of store }) ∷ [] }
-        requires shown { shown_of publisher ≡ pair 0 (record { schema = store.schema; kept = kept_of store }) }
+        requires given { given_of publisher ≡ pair 0
+            (record { schema = store.schema; kept = kept_of store }) ∷ [] }
+        requires shown { shown_of publisher ≡ pair 0
+            (record { schema = store.schema; kept = kept_of store }) }
         ensures store { result.store ≡ store }
         ensures publisher { result.publisher ≡ publisher }
         ensures settled { IsSettled result }
@@ -50,7 +52,8 @@ impl<D: Disk> Counter<D> {
         requires settled { IsSettled self.now }
         requires at { IsViewerAt self.now viewer.old }
         ensures own { IsViewerAt self.now viewer.new }
-        ensures schema { (schema : Schema) → IsViewerOf schema viewer.old → IsViewerOf schema viewer.new }
+        ensures schema { (schema : Schema) → IsViewerOf schema viewer.old
+            → IsViewerOf schema viewer.new }
         ensures found { pairs_of viewer.new ≡ pairs_of viewer.old }
         ensures known { AreOf self.now.store (pairs_of viewer.new) }
     {

@@ -68,9 +68,12 @@ impl Log {
     pub fn add(&mut self, mark: Mark) -> bool
         requires { mark.seat ≤ 16 }
         ensures limit { self.new.limit ≡ self.old.limit }
-        ensures others { (n : ℕ) → n ≢ mark.seat → slice_index self.new.refused n ≡ slice_index self.old.refused n }
-        ensures marks { MatchBool result (self.new.marks.items ≡ self.old.marks.items ++ mark ∷ []) (self.new.marks.items ≡ self.old.marks.items) }
-        ensures shown { MatchBool result (self.new.shown ≡ length self.new.marks.items) (self.new.shown ≡ self.old.shown) }
+        ensures others { (n : ℕ) → n ≢ mark.seat
+            → slice_index self.new.refused n ≡ slice_index self.old.refused n }
+        ensures marks { MatchBool result (self.new.marks.items ≡ self.old.marks.items ++ mark ∷ [])
+            (self.new.marks.items ≡ self.old.marks.items) }
+        ensures shown { MatchBool result (self.new.shown ≡ length self.new.marks.items)
+            (self.new.shown ≡ self.old.shown) }
     {
         if (self.marks.len() as u64) < self.limit && self.marks.push(mark).is_ok() {
             self.shown = self.marks.len() as u64;

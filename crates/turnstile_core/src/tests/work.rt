@@ -22,7 +22,8 @@ fn add<R: Wait>(
     requires number { (number ≡ (past seat.old).number) × (number ≤ 16) }
     ensures own { turnstile_of seat.new ≡ turnstile_of seat.old }
     ensures free { IsFree seat.new }
-    ensures numbers { ((past seat.new).number ≡ (past seat.old).number) × ((past seat.new).given ≡ (past seat.old).given) }
+    ensures numbers { ((past seat.new).number ≡ (past seat.old).number)
+        × ((past seat.new).given ≡ (past seat.old).given) }
 {
     let mut turn = desk.take_turn(rt, seat);
     let place = turn.value.entries();
@@ -99,8 +100,10 @@ impl Post {
     fn work<R: Wait>(&mut self, rt: &R, desk: &Turnstile<Log>)
         requires own { (turnstile_of self.old.seat ≡ name_of desk.now) × IsFree self.old.seat }
         requires number { (self.old.number ≡ (past self.old.seat).number) × (self.old.number ≤ 16) }
-        ensures own { (turnstile_of self.new.seat ≡ turnstile_of self.old.seat) × IsFree self.new.seat }
-        ensures numbers { ((past self.new.seat).number ≡ (past self.old.seat).number) × ((past self.new.seat).given ≡ (past self.old.seat).given) }
+        ensures own { (turnstile_of self.new.seat ≡ turnstile_of self.old.seat)
+            × IsFree self.new.seat }
+        ensures numbers { ((past self.new.seat).number ≡ (past self.old.seat).number)
+            × ((past self.new.seat).given ≡ (past self.old.seat).given) }
     {
         self.told = add(rt, desk, &mut self.seat, self.number, self.payload);
     }
