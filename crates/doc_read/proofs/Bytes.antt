@@ -15,7 +15,7 @@ use Rattle.doc_read.specs.Chars.{begins, contains}
 use Rattle.doc_read.proofs.Words.{contains_end, contains_later}
 use Rattle.doc_read.proofs.Marks.{neither, begins_cons}
 
--- ---- a byte of ASCII, which only its own character has
+-- ---- a byte of ASCII, which only its own character has, and tests of them
 
 other : (byte n : ℕ) → byte < 128 → 128 ≤ n → (n == byte) ≡ false
 other byte n lt le = grind (arith, nat_tests)
@@ -24,27 +24,32 @@ alone : (b : Bool) → (b || false) ≡ b
 alone true = refl
 alone false = refl
 
-encode_has : (byte c : ℕ) → byte < 128 → list_any (λ d. d == byte) (encode_utf8 c) ≡ (c == byte)
-unfolding encode_utf8
-encode_has byte c ascii =
-    elim (cases_lt c 128) [
-      | inl lt ↦ ap (list_any (λ d. d == byte)) (encode_ascii c lt) ∙ alone (c == byte)
-      | inr le ↦ more (ltb c 128) (ltb c 2048) (ltb c 65536) le
-    ]
-  where
-    more : (x y z : Bool) → 128 ≤ c
-        → list_any (λ d. d == byte) (cond x (c ∷ []) (cond y ((192 + c / 64) ∷ (128 + c % 64) ∷ []) (cond z ((224 + c / 4096) ∷ (128 + (c / 64) % 64) ∷ (128 + c % 64) ∷ []) ((240 + c / 262144) ∷ (128 + (c / 4096) % 64) ∷ (128 + (c / 64) % 64) ∷ (128 + c % 64) ∷ [])))) ≡ (c == byte)
-    more true y z le = alone (c == byte)
-    more false true z le = rw (other byte c ascii le, other byte (192 + c / 64) ascii (omega arith), other byte (128 + c % 64) ascii (omega arith)) refl
-    more false false true le = rw (other byte c ascii le, other byte (224 + c / 4096) ascii (omega arith), other byte (128 + (c / 64) % 64) ascii (omega arith), other byte (128 + c % 64) ascii (omega arith)) refl
-    more false false false le = rw (other byte c ascii le, other byte (240 + c / 262144) ascii (omega arith), other byte (128 + (c / 4096) % 64) ascii (omega arith), other byte (128 + (c / 64) % 64) ascii (omega arith), other byte (128 + c % 64) ascii (omega arith)) refl
+-- the same of each test that only ASCII passes
+module _ (test : ℕ → Bool) (above : (n : ℕ) → 128 ≤ n → test n ≡ false) where
+  encode_passes : (c : ℕ) → list_any test (encode_utf8 c) ≡ test c
+  unfolding encode_utf8
+  encode_passes c =
+      elim (cases_lt c 128) [
+        | inl lt ↦ ap (list_any test) (encode_ascii c lt) ∙ alone (test c)
+        | inr le ↦ more (ltb c 128) (ltb c 2048) (ltb c 65536) le
+      ]
+    where
+      more : (x y z : Bool) → 128 ≤ c
+          → list_any test (cond x (c ∷ []) (cond y ((192 + c / 64) ∷ (128 + c % 64) ∷ []) (cond z ((224 + c / 4096) ∷ (128 + (c / 64) % 64) ∷ (128 + c % 64) ∷ []) ((240 + c / 262144) ∷ (128 + (c / 4096) % 64) ∷ (128 + (c / 64) % 64) ∷ (128 + c % 64) ∷ [])))) ≡ test c
+      more true y z le = alone (test c)
+      more false true z le = rw (above c le, above (192 + c / 64) (omega arith), above (128 + c % 64) (omega arith)) refl
+      more false false true le = rw (above c le, above (224 + c / 4096) (omega arith), above (128 + (c / 64) % 64) (omega arith), above (128 + c % 64) (omega arith)) refl
+      more false false false le = rw (above c le, above (240 + c / 262144) (omega arith), above (128 + (c / 4096) % 64) (omega arith), above (128 + (c / 64) % 64) (omega arith), above (128 + c % 64) (omega arith)) refl
 
-encodes_have : (byte : ℕ) (cs : List ℕ) → byte < 128 → list_any (λ d. d == byte) (encode_utf8_all cs) ≡ list_any (λ d. d == byte) cs
-encodes_have byte [] ascii = refl
-encodes_have byte (c ∷ cs) ascii = list_any-append (λ d. d == byte) (encode_utf8 c) (encode_utf8_all cs) ∙ rw (encode_has byte c ascii, encodes_have byte cs ascii) refl
+  encodes_pass : (cs : List ℕ) → list_any test (encode_utf8_all cs) ≡ list_any test cs
+  encodes_pass [] = refl
+  encodes_pass (c ∷ cs) = list_any-append test (encode_utf8 c) (encode_utf8_all cs) ∙ rw (encode_passes c, encodes_pass cs) refl
+
+  pub chars_pass : (bs : List ℕ) → IsUtf8 bs → list_any test bs ≡ list_any test (chars bs)
+  chars_pass bs text = ap (list_any test) (sym (encodes-chars bs text)) ∙ encodes_pass (chars bs)
 
 pub chars_have : (byte : ℕ) (bs : List ℕ) → byte < 128 → IsUtf8 bs → list_any (λ d. d == byte) bs ≡ list_any (λ d. d == byte) (chars bs)
-chars_have byte bs ascii text = ap (list_any (λ d. d == byte)) (sym (encodes-chars bs text)) ∙ encodes_have byte (chars bs) ascii
+chars_have byte bs ascii text = chars_pass (λ d. d == byte) (λ n le. other byte n ascii le) bs text
 
 pub no_section_end : (cs : List ℕ) → list_any (λ d. d == 93) cs ≡ false → contains SectionEnd cs ≡ false
 no_section_end [] none = contains_end SectionEnd [] refl

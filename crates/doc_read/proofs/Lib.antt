@@ -8,6 +8,7 @@ pub mod Scopes
 pub mod Repeats
 pub mod Levels
 pub mod Untils
+pub mod Values
 pub mod Marks
 pub mod Again
 pub mod Complete

@@ -1,10 +1,11 @@
 -- Whether bytes are text, and where its lines end.
-use Rattle.std.proofs.Common.{◌≡◌, ℕ, Bool, true, false, eqb, List, [], ◌∷◌, ◌++◌, map, refl, ap, ◌∙◌}
+use Rattle.std.proofs.Common.{◌≡◌, ℕ, Bool, true, false, eqb, List, [], ◌∷◌, ◌++◌, map, refl, sym, ap, ◌∙◌, ◌||◌, cond}
 use Rattle.std.specs.Prelude.{◌==◌, encode_utf8, encode_utf8_all}
 use Rattle.std.specs.Str.{IsUtf8, is_utf8}
 use Rattle.std.proofs.lemmas.Str.{is_utf8-from_IsUtf8, IsUtf8-from_is_utf8}
 use Rattle.std.proofs.lemmas.Str.{encodes-append}
 use Rattle.std.proofs.lemmas.List.{append-nil}
+use Rattle.std.proofs.lemmas.Bool.{eqb-true}
 use Rattle.std.specs.List.{list_any}
 use Rattle.doc_read.specs.Lex.{plain}
 use Rattle.doc_read.specs.Document.{line_piece, line_feeds}
@@ -37,6 +38,21 @@ lines_stay (c ∷ cs) none =
     rw (p.0, lines_stay cs p.1) refl
 
 -- ---- characters one by one
+
+one_stays : (c : ℕ) → eqb c 9 ≡ false → eqb c 10 ≡ false → plain c ≡ c
+one_stays c a b = rw (a, b) (same (eqb c 32) refl)
+  where
+    same : (x : Bool) → eqb c 32 ≡ x → cond (x || false || false) 32 c ≡ c
+    same true e = sym (eqb-true c 32 e)
+    same false e = refl
+
+-- without tabs and line feeds, white space is spaces
+pub plain_stay : (cs : List ℕ) → list_any (λ c. c == 9) cs ≡ false → list_any (λ c. c == 10) cs ≡ false → map plain cs ≡ cs
+plain_stay [] tabs feeds = refl
+plain_stay (c ∷ cs) tabs feeds =
+    let p = neither (eqb c 9) (list_any (λ d. d == 9) cs) tabs in
+    let q = neither (eqb c 10) (list_any (λ d. d == 10) cs) feeds in
+    rw (one_stays c p.0 q.0, plain_stay cs p.1 q.1) refl
 
 pub plain_turn : (c : ℕ) (cs rest : List ℕ) → cs ≡ c ∷ rest → encode_utf8_all (map plain cs) ≡ encode_utf8 (plain c) ++ encode_utf8_all (map plain rest)
 plain_turn c cs rest is = rw is refl

@@ -1,6 +1,6 @@
 //! Characters and names.
 
-ghost use Rattle.std.specs.Prelude.{◌≡◌, []};
+ghost use Rattle.std.specs.Prelude.{◌≡◌, ◌<◌, []};
 ghost use Rattle.std.specs.Str.{chars};
 ghost use Rattle.doc_read.specs.Read.{GivesBy};
 ghost use Rattle.doc_read.specs.Rest.{IsRest, Skips};
@@ -9,7 +9,7 @@ ghost use Rattle.doc_read.specs.Lex.{name_at, spelled_at, spelled};
 
 use crate::fault::DocFault;
 use crate::front::{before, first};
-use memchr::memchr2;
+use memchr::{memchr2, memchr3};
 
 /// A set of characters.
 #[derive(Clone, Copy)]
@@ -66,6 +66,31 @@ fn skip_text(text: &str) -> &str
     }
 }
 
+/// What comes after the longest front of a value between these quotes, which is found by its bytes.
+fn skip_value(quote: u8, text: &str) -> &str
+    requires { quote < 128 }
+    ensures chars { chars result.now ≡ (split_front (Class.Value quote) (chars text.now)).1 }
+    ensures rest { IsRest text.now result.now }
+{
+    match memchr3(quote, b'<', b'&', text.as_bytes()) {
+        Some(place) => text.split_at(place).1,
+        None => "",
+    }
+}
+
+/// What comes after the longest front of what may stand in a name, which is all of ASCII, byte by byte.
+fn skip_name(text: &str) -> &str
+    ensures chars { chars result.now ≡ (split_front Class.NamePart (chars text.now)).1 }
+    ensures rest { IsRest text.now result.now }
+{
+    let bytes = text.as_bytes();
+    let mut place = 0;
+    while place < bytes.len() && Class::NamePart.holds(bytes[place] as char) {
+        place += 1;
+    }
+    text.split_at(place).1
+}
+
 /// What comes after the longest front of the class, character by character.
 fn skip_each(class: Class, text: &str) -> &str
     ensures chars { chars result.now ≡ (split_front class (chars text.now)).1 }
@@ -85,6 +110,9 @@ fn skip(class: Class, text: &str) -> &str
 {
     match class {
         Class::Text => skip_text(text),
+        Class::Value('"') => skip_value(b'"', text),
+        Class::Value('\'') => skip_value(b'\'', text),
+        Class::NamePart => skip_name(text),
         _ => skip_each(class, text),
     }
 }

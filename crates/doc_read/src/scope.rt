@@ -10,6 +10,7 @@ use crate::fault::DocFault;
 use crate::front::{is_empty, same};
 use crate::lex::Spelled;
 use crate::tag::RawAttribute;
+use crate::value::text_of;
 use std::alloc::Global;
 use wfs_ends::{Mem, Text};
 
@@ -110,10 +111,4 @@ pub fn declared_at(alloc: Global, raws: &[RawAttribute<'_>]) -> Result<Vec<Bound
         declare(alloc, &mut found, raw)?;
     }
     Ok(found)
-}
-
-pub fn text_of(alloc: Global, cs: &str) -> Mem<Text>
-    ensures { IfOk result (λ t. t ≡ encode_utf8_all (chars cs.now)) }
-{
-    Text::of(alloc, cs)
 }

@@ -16,7 +16,7 @@ use crate::texts::Texts;
 use crate::value::add_characters;
 use doc_tree::Element;
 use std::alloc::Global;
-use wfs_ends::Text;
+use wfs_ends::{Mem, Text};
 
 const MAX_ELEMENTS: u32 = 100_000;
 
@@ -101,6 +101,17 @@ fn content<'a>(
     Err(DocFault::Malformed)
 }
 
+/// Adds a child. Most elements that have any have one, for which no more room is made.
+fn push_child(children: &mut Vec<Element>, child: Element) -> Mem<()>
+    ensures { OnOk result (children.new.items ≡ children.old.items ++ child ∷ []) }
+{
+    if children.is_empty() {
+        children.reserve_exact(1)?;
+    }
+    children.push(child)?;
+    Ok(())
+}
+
 /// One piece of content, and whether it was the start of the end tag.
 #[cycle(tree)]
 #[tactic(auto, using(std::proofs::lemmas::List::map_push), unfolding(crate::specs::Element::turn_at))]
@@ -149,7 +160,7 @@ fn turn<'a>(
             }
             Some(_) => {
                 let (child, seen, rest) = element(alloc, texts, depth, scope, seen, after)?;
-                children.push(child)?;
+                push_child(&mut children, child)?;
                 Ok((
                     false,
                     Inside {

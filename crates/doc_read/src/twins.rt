@@ -84,7 +84,7 @@ fn pair<'a>(prefix: &'a str, local: &'a str) -> (&'a str, &'a str)
 fn spellings<'a>(alloc: Global, raws: &[RawAttribute<'a>]) -> Mem<Vec<(&'a str, &'a str)>>
     ensures { IfOk result (λ v. map texts v.items ≡ spellings (map raw_of raws.now)) }
 {
-    let mut found = Vec::new(alloc);
+    let mut found = Vec::with_capacity(alloc, raws.len())?;
     for raw in raws {
         found.push(pair(raw.name.prefix, raw.name.local))?;
     }
@@ -95,7 +95,7 @@ fn spellings<'a>(alloc: Global, raws: &[RawAttribute<'a>]) -> Mem<Vec<(&'a str, 
 fn expanded_names(alloc: Global, attributes: &[Attribute]) -> Mem<Vec<(&str, &str)>>
     ensures { IfOk result (λ v. map texts v.items ≡ expanded_names attributes.now) }
 {
-    let mut found = Vec::new(alloc);
+    let mut found = Vec::with_capacity(alloc, attributes.len())?;
     for attribute in attributes {
         let name = &attribute.name;
         found.push((name.local.as_str(), name.space.as_str()))?;

@@ -1,16 +1,17 @@
 //! Character data, and the values of attributes.
 
-ghost use Rattle.std.specs.Prelude.{◌≡◌, ◌++◌, map, OnOk, string_bytes, encode_utf8_all};
+ghost use Rattle.std.specs.Prelude.{◌≡◌, ◌++◌, map, IfOk, Ok, OnOk, string_bytes, encode_utf8_all};
+ghost use Rattle.std.specs.Option.{IfSome};
 ghost use Rattle.std.specs.Str.{chars};
 ghost use Rattle.doc_read.specs.Read.{GivesBy};
 ghost use Rattle.doc_read.specs.Lex.{part, plain, value_turn, inside_value, value_at};
 
 use crate::fault::DocFault;
-use crate::front::first;
+use crate::front::{first, has};
 use crate::lex::{Class, split_front};
 use crate::reference::reference_at;
 use std::alloc::{AllocError, Global};
-use wfs_ends::Text;
+use wfs_ends::{Mem, Text};
 
 pub fn add_characters(text: &mut String, cs: &str) -> Result<(), AllocError>
     ensures { OnOk result (string_bytes text.new
@@ -26,11 +27,14 @@ fn plain(c: char) -> char
 }
 
 /// White space in a value counts as spaces.
-#[tactic(auto, using(crate::proofs::Text::plain_turn, crate::proofs::Text::plain_end, std::proofs::Common::append_assoc))]
+#[tactic(auto, using(crate::proofs::Text::plain_stay, crate::proofs::Text::plain_turn, crate::proofs::Text::plain_end, std::proofs::Common::append_assoc))]
 fn add_plain(text: &mut String, cs: &str) -> Result<(), AllocError>
     ensures { OnOk result (string_bytes text.new
         ≡ string_bytes text.old ++ encode_utf8_all (map plain (chars cs.now))) }
 {
+    if !has(cs, b'\t') && !has(cs, b'\n') {
+        return add_characters(text, cs);
+    }
     let mut rest = cs;
     while let Some((c, after)) = first(rest) {
         text.push(plain(c))?;
@@ -80,12 +84,36 @@ fn inside_value(alloc: Global, quote: char, cs: &str) -> Result<(String, &str), 
     Err(DocFault::Malformed)
 }
 
+/// A text of these characters.
+pub fn text_of(alloc: Global, cs: &str) -> Mem<Text>
+    ensures { IfOk result (λ t. t ≡ encode_utf8_all (chars cs.now)) }
+{
+    Text::of(alloc, cs)
+}
+
+/// A value that stands as it is, behind its quote: without references, tabs and line feeds.
+fn plain_value(quote: char, cs: &str) -> Option<(&str, &str)>
+    ensures { IfSome result (λ x. inside_value quote (chars cs.now)
+        ≡ Ok (part (encode_utf8_all (chars x.0.now)) (chars x.1.now))) }
+{
+    let (front, rest) = split_front(Class::Value(quote), cs);
+    match first(rest) {
+        Some((c, after)) if c == quote && !has(front, b'\t') && !has(front, b'\n') => {
+            Some((front, after))
+        }
+        _ => None,
+    }
+}
+
 #[tactic(auto, unfolding(crate::specs::Lex::value_at))]
 pub fn value_at<'a>(alloc: Global, cs: &'a str) -> Result<(Text, &'a str), DocFault>
     ensures { GivesBy (λ x. (x.0, chars x.1.now)) result (value_at (chars cs.now)) }
 {
     match first(cs) {
         Some((quote @ ('"' | '\''), after)) => {
+            if let Some((value, rest)) = plain_value(quote, after) {
+                return Ok((text_of(alloc, value)?, rest));
+            }
             let (text, rest) = inside_value(alloc, quote, after)?;
             Ok((Text::of_string(text)?, rest))
         }
