@@ -162,6 +162,12 @@ fn run_settle<D: Disk + Drop>(disks: Pair<D>) -> (Option<(u64, u64, bool)>, Pair
     }
 }
 
+// Side b is current, and its ending gate reads 0: whether it was settled.
+fn run_closed<D: Disk + Drop>(disks: Pair<D>) -> bool {
+    let mut disks = disks;
+    settle(&mut disks, true, 0, false, true).is_ok()
+}
+
 // Whether a crash that keeps so many writes leaves just the first bytes of these.
 fn leaves(disk: MemDisk, keep: u32, want: &[u8; 24], length: usize) -> bool {
     let mut crashed = disk.crash(keep);
@@ -355,6 +361,20 @@ fn each_call_of_settle_may_fail(rt: HostRuntime) -> Result<(), Fail> {
         let (answer, disks) = run_settle(Pair { a, b });
         assert_eq!(rt; answer, seen, "at {call}");
         assert!(rt; leaves(disks.a, keep, &want, 24), "at {call}");
+    }
+    Ok(())
+}
+
+// A gate that reads 0 is not written: the one call is the sync of its side.
+#[test]
+fn side_of_a_closed_gate_is_synced(rt: HostRuntime) -> Result<(), Fail> {
+    for (call, is_settled) in [(0, false), (1, true)] {
+        let alloc = rt.alloc();
+        let (a, b) = (
+            empty_disk(alloc, &[], None)?,
+            empty_disk(alloc, &[call], None)?,
+        );
+        assert_eq!(rt; run_closed(Pair { a, b }), is_settled, "at {call}");
     }
     Ok(())
 }

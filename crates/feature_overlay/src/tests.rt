@@ -201,11 +201,12 @@ fn finds_what_was_done(rt: HostRuntime) -> Result<(), Fail> {
     Ok(())
 }
 
-static STEPS: [Step; 4] = [
+static STEPS: [Step; 5] = [
     ((0, 2), None),
     ((0, 3), Some(3)),
     ((0, 4), Some(40)),
     ((1, 1), Some(11)),
+    ((2, 1), Some(22)),
 ];
 
 static BEHIND: [(Place, Mark); 6] = [
@@ -214,7 +215,7 @@ static BEHIND: [(Place, Mark); 6] = [
     ((0, 3), ((0, 4), 40)),
     ((0, 9), ((1, 1), 11)),
     ((1, 2), ((1, 3), 13)),
-    ((1, 9), ((2, 1), 21)),
+    ((1, 9), ((2, 1), 22)),
 ];
 
 #[test]
@@ -231,8 +232,15 @@ fn goes_on_behind_any_place(rt: HostRuntime) -> Result<(), Fail> {
     Ok(())
 }
 
-// How often an identifier is given near where all features stand, of the first type.
-static NEAR: [(Place, usize); 4] = [((0, 2), 0), ((0, 3), 1), ((0, 4), 1), ((1, 1), 0)];
+// How often an identifier is given near where all features stand, of the first type. The view below gives those of all types.
+static NEAR: [(Place, usize); 6] = [
+    ((0, 2), 0),
+    ((0, 3), 1),
+    ((0, 4), 1),
+    ((1, 1), 0),
+    ((1, 3), 1),
+    ((2, 1), 0),
+];
 
 #[test]
 fn gives_what_may_be_near(rt: HostRuntime) -> Result<(), Fail> {

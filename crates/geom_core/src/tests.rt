@@ -63,6 +63,11 @@ static AWAY: [Place; 4] = [(20, 20), (21, 20), (21, 21), (20, 20)];
 
 static PARTLY: [Place; 4] = [(8, 8), (12, 8), (8, 9), (8, 8)];
 
+// What is left of a square behind its corner at (10, -10), and a hole to the left of that square.
+static SIDES: [Place; 4] = [(10, 10), (-10, 10), (-10, -10), (10, -10)];
+
+static LEFT: [Place; 4] = [(-20, -5), (-15, -5), (-15, 5), (-20, -5)];
+
 fn fault_of(
     alloc: Global,
     shell: &[Place],
@@ -70,6 +75,26 @@ fn fault_of(
     times: usize,
 ) -> Result<Option<GeomFault>, AllocError> {
     Ok(polygon(alloc, shell, hole, times)?.err())
+}
+
+// The fault of that square with a hole. Its first corner stands 64 times, so that the edge behind it ends a block of edges.
+fn fault_in_square(alloc: Global, hole: &[Place]) -> Result<Option<GeomFault>, AllocError> {
+    let mut shell = Vec::new(alloc);
+    for _ in 0..64 {
+        shell.push((10, -10))?;
+    }
+    shell.extend_from_slice(&SIDES)?;
+    fault_of(alloc, &shell, hole, 1)
+}
+
+#[test]
+fn holes_beside_a_block(rt: HostRuntime) -> Result<(), Fail> {
+    assert_eq!(rt; fault_in_square(rt.alloc(), &GAP)?, None);
+    assert_eq!(rt;
+        fault_in_square(rt.alloc(), &LEFT)?,
+        Some(GeomFault::HoleOutside)
+    );
+    Ok(())
 }
 
 // The first of the polygons, by a shell and a hole whose last place stands so many times, with another first fault.

@@ -15,7 +15,7 @@ use wfs_ends::{Mem, OutOfMemory};
 
 mod bodies;
 
-use bodies::{CHECKPOINT, ROWS, TAKEN};
+use bodies::{CHECKPOINT, OPENED_TWICE, ROWS, TAKEN};
 
 const MARKS: &str = r#"
 title = "Marks"
@@ -74,6 +74,20 @@ fn first_wrong(alloc: Global) -> Mem<Option<usize>> {
 #[test]
 fn bodies_are_judged(rt: HostRuntime) -> Result<(), Fail> {
     assert_eq!(rt; first_wrong(rt.alloc())?, None);
+    Ok(())
+}
+
+// How many of these bodies are kept.
+fn kept_count(alloc: Global, bodies: &[&[u8]]) -> Mem<usize> {
+    let mut replay = replay(alloc)?;
+    let _refused = first_refused(&mut replay, bodies);
+    let (_features, kept) = replay.into_parts();
+    Ok(kept.count())
+}
+
+#[test]
+fn refused_body_is_not_kept(rt: HostRuntime) -> Result<(), Fail> {
+    assert_eq!(rt; kept_count(rt.alloc(), OPENED_TWICE)?, 1);
     Ok(())
 }
 

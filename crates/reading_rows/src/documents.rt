@@ -88,7 +88,7 @@ fn is_read_as(alloc: Global, bytes: &[u8], wanted: &str) -> bool {
 }
 
 /// Documents, and the tree or the fault that the rules give.
-static DOCUMENTS: [(&str, &str); 160] = [
+static DOCUMENTS: [(&str, &str); 163] = [
     // The byte order mark and the declaration.
     ("\u{feff}<a/>", "a"),
     ("\u{feff}<?xml version='1.0'?><a/>", "a"),
@@ -130,6 +130,8 @@ static DOCUMENTS: [(&str, &str); 160] = [
     ("<?style a?><a/>", "Malformed"),
     ("<a><?style a?></a>", "Malformed"),
     ("<a/><!-- b ", "Malformed"),
+    ("<a/><", "Malformed"),
+    ("<p:a><", "Prefix"),
     // Comments.
     ("<a>x<!-- <b> & ]]> -->y</a>", "a\"xy\""),
     ("<a><!--a---></a>", "a"),
@@ -167,6 +169,7 @@ static DOCUMENTS: [(&str, &str); 160] = [
     ("<a/", "Malformed"),
     ("<a/ >", "Malformed"),
     ("<a>", "Malformed"),
+    ("<a>xy", "Malformed"),
     ("<a></b>", "Malformed"),
     ("<a></A>", "Malformed"),
     ("<a></ a>", "Malformed"),

@@ -41,7 +41,7 @@ type Case = (
     &'static [u64],
 );
 
-static CASES: [Case; 9] = [
+static CASES: [Case; 11] = [
     (
         "a mark that is locked, without a lock",
         None,
@@ -125,6 +125,26 @@ static CASES: [Case; 9] = [
         Some((17, "Filter")),
         &[],
         (&[], &[], &[], 0),
+        &[],
+    ),
+    (
+        "a Replace of both",
+        None,
+        1100,
+        &[Deed::Replace(None, 7)],
+        Some((17, "Filter")),
+        &[],
+        (&[], &[], &[], 0),
+        &[],
+    ),
+    (
+        "two come, each under a number of its own",
+        None,
+        1100,
+        &[Deed::Insert(10), Deed::Insert(20)],
+        None,
+        &[(3, Some(10)), (4, Some(20))],
+        (&[3, 4], &[], &[], 0),
         &[],
     ),
     (

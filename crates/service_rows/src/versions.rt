@@ -174,7 +174,7 @@ static PLAYED: [Done; 6] = [
     Done::Begins(4, &[9, 2]),
     Done::Lays(&[
         Lay::Other((0, 1, "A", Some((0, 0)), Some((1, 1)))),
-        Lay::Other((0, 2, "B", Some((70_000, 0)), None)),
+        Lay::Other((0, 2, "B", Some((300_000, 0)), None)),
         Lay::Other((0, 3, "C", Some((200_000, 0)), Some((3, 3)))),
         Lay::Other((0, 4, "D", None, None)),
         Lay::Other((0, 12, "E", Some((0, 0)), Some((0, 0)))),
@@ -188,13 +188,15 @@ static PLAYED: [Done; 6] = [
         Lay::Other((0, 4, "G", None, Some((-5, -5)))),
         Lay::Gone(0, 4),
         Lay::Other((0, 3, "H", Some((200_000, 0)), Some((4, 4)))),
+        Lay::Other((0, 2, "I", Some((70_000, 0)), None)),
     ]),
 ];
 
 /// Which features are near a box.
-static NEAR: [(u32, [i64; 4], &[u64]); 6] = [
+static NEAR: [(u32, [i64; 4], &[u64]); 7] = [
     (0, [5, 5, 6, 6], &[1, 3]),
     (0, [70_000, 0, 70_000, 0], &[2]),
+    (0, [300_000, 0, 300_000, 0], &[]),
     (0, [-9, -9, -1, -1], &[]),
     (
         0,

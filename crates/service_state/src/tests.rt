@@ -46,8 +46,8 @@ const SECOND: LockId = LockId {
     number: 2,
 };
 
-/// At most three marks, four numbers, one live lock and one stored query.
-static STEPS: [Step; 17] = [
+/// With at most three marks, four numbers, one live lock and one stored query.
+static STEPS: [Step; 18] = [
     ("a first mark", 1000, Ask::Insert, Outcome::Inserted(1)),
     ("a second mark", 1000, Ask::Insert, Outcome::Inserted(2)),
     (
@@ -93,10 +93,16 @@ static STEPS: [Step; 17] = [
         Outcome::Refused(16),
     ),
     (
-        "another lock, until 1119",
-        1059,
+        "another lock, until 1119, at a moment before the last one",
+        900,
         Ask::Lock(2),
         Outcome::Locked(SECOND),
+    ),
+    (
+        "it lives on",
+        1118,
+        Ask::Delete(2, None),
+        Outcome::Refused(18),
     ),
     (
         "a lock at its deadline",
@@ -137,14 +143,15 @@ static STEPS: [Step; 17] = [
     ),
 ];
 
-fn limits() -> Limits {
+// The limits, where so many locks may live.
+fn limits(locks: u16) -> Limits {
     let stated = Limits::stated();
     Limits {
         entries: stated.entries,
         bytes: stated.bytes,
         features: 3,
         ids: 4,
-        locks: 1,
+        locks: u64::from(locks),
         stored: 1,
         side: stated.side,
     }
@@ -209,14 +216,20 @@ fn comes_to(alloc: Global, schema: &Schema, state: &mut ServiceState, row: &Step
 {
     let (_, moment, ask, outcome) = *row;
     let request = request(alloc, schema, ask)?;
-    Ok(is_outcome(&step(state, moment, &request, &limits()), outcome))
+    Ok(is_outcome(&step(state, moment, &request, &limits(1)), outcome))
 }
 
-fn first_of(alloc: Global, schema: &Schema, state: &mut ServiceState) -> Mem<Option<&'static str>>
+fn first_of(
+    alloc: Global,
+    schema: &Schema,
+    state: &mut ServiceState,
+    rows: &[Step],
+) -> Mem<Option<&'static str>>
     requires marks { AreMarks schema.now }
     requires schema { state.old.schema ≡ schema.now }
+    ensures { state.new.schema ≡ state.old.schema }
 {
-    for row in STEPS.iter() {
+    for row in rows {
         if !comes_to(alloc, schema, state, row)? {
             return Ok(Some(row.0));
         }
@@ -248,11 +261,40 @@ fn told(state: &ServiceState) -> Mem<[u64; 5]> {
 fn first_wrong(alloc: Global) -> Mem<(Option<&'static str>, [u64; 5])> {
     let schema = schema(alloc)?;
     let mut state = first_state(alloc, &schema)?;
-    let wrong = first_of(alloc, &schema, &mut state)?;
+    let wrong = first_of(alloc, &schema, &mut state, &STEPS)?;
     Ok((wrong, told(&state)?))
 }
 
 #[test]
 fn steps_come_to_what_was_worked_out(rt: HostRuntime) {
     assert_eq!(rt; first_wrong(rt.alloc()), Ok((None, [2, 4, 2, 1119, 1])));
+}
+
+// What is told of one more lock, where one lives and none may any more.
+fn lock_above(alloc: Global, schema: &Schema, state: &mut ServiceState) -> Mem<Option<FullAt>>
+    requires marks { AreMarks schema.now }
+    requires schema { state.old.schema ≡ schema.now }
+{
+    let request = request(alloc, schema, Ask::Lock(2))?;
+    match step(state, 1000, &request, &limits(0)) {
+        Err(PrepareFault::Full(at)) => Ok(Some(at)),
+        _ => Ok(None),
+    }
+}
+
+// The first three steps, and that one.
+fn told_above(alloc: Global) -> Mem<(Option<&'static str>, Option<FullAt>)> {
+    let schema = schema(alloc)?;
+    let mut state = first_state(alloc, &schema)?;
+    let wrong = first_of(alloc, &schema, &mut state, &STEPS[..3])?;
+    Ok((wrong, lock_above(alloc, &schema, &mut state)?))
+}
+
+#[test]
+fn more_than_the_limit_is_told_as_it_is(rt: HostRuntime) {
+    let one_lives = FullAt {
+        limit: LimitName::Locks,
+        number: 1,
+    };
+    assert_eq!(rt; told_above(rt.alloc()), Ok((None, Some(one_lives))));
 }

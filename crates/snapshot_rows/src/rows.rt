@@ -1,10 +1,10 @@
 //! Marks that are published and counted. What is expected was worked out by hand.
 
-ghost use Rattle.std.specs.Prelude.{◌≡◌, length};
+ghost use Rattle.std.specs.Prelude.{◌≡◌, ◌++◌, ◌∷◌, [], OnOk, length};
 ghost use Rattle.wfs_model.specs.Changing.{IsChange};
 ghost use Rattle.wfs_model.specs.Playable.{AreQueriesOf};
 ghost use Rattle.snapshot_reads.specs.Content.{content_of};
-ghost use Rattle.snapshot_reads.specs.Pairs.{schema_in};
+ghost use Rattle.snapshot_reads.specs.Pairs.{pair, schema_in};
 ghost use Rattle.snapshot_reads.specs.Publishers.{given_of, shown_of, IsAbreast};
 
 use feature_versions::Features;
@@ -51,6 +51,10 @@ fn play<R: Wait>(
     requires queries { AreQueriesOf features.old.schema change }
     requires alike { IsAbreast publisher.old → content_of features.old
         ≡ (shown_of publisher.old).content }
+    ensures given { OnOk result (given_of publisher.new ≡ given_of publisher.old
+        ++ pair front (content_of features.new) ∷ []) }
+    ensures schema { OnOk result (features.new.schema ≡ features.old.schema) }
+    ensures alike { OnOk result (content_of features.new ≡ (shown_of publisher.new).content) }
 {
     if !features.accepts(alloc, &change)? {
         return Err(OutOfMemory);
@@ -61,7 +65,7 @@ fn play<R: Wait>(
     publisher.publish(rt, front, Some(&change), features)
 }
 
-// What a viewer finds before a mark comes, after it, and once it was told a front that is not there yet.
+// What a viewer finds before a mark comes, after it, after another, and once it was told a front that is not there yet.
 fn told<R: Wait>(
     rt: &R,
     alloc: Global,
@@ -69,7 +73,7 @@ fn told<R: Wait>(
     viewer: &mut Viewer,
     features: &mut Features,
     request: &Request,
-) -> Mem<[Found; 3]>
+) -> Mem<[Found; 4]>
     requires next { length (given_of publisher.old) ≡ 1 }
     requires schema { features.old.schema ≡ schema_in (given_of publisher.old) }
     requires alike { IsAbreast publisher.old → content_of features.old
@@ -79,9 +83,11 @@ fn told<R: Wait>(
     let before = look(alloc, viewer, request)?;
     play(rt, alloc, publisher, features, 1, insert(alloc, 1)?)?;
     let after = look(alloc, viewer, request)?;
-    viewer.tell(2);
+    play(rt, alloc, publisher, features, 2, insert(alloc, 2)?)?;
+    let both = look(alloc, viewer, request)?;
+    viewer.tell(3);
     let behind = look(alloc, viewer, request)?;
-    Ok([before, after, behind])
+    Ok([before, after, both, behind])
 }
 
 // The same by the last of these viewers.
@@ -91,7 +97,7 @@ fn told_to_last<R: Wait>(
     publisher: &mut Publisher,
     viewers: Vec<Option<Viewer>>,
     features: &mut Features,
-) -> Mem<[Found; 3]>
+) -> Mem<[Found; 4]>
     requires next { length (given_of publisher.old) ≡ 1 }
     requires schema { features.old.schema ≡ schema_in (given_of publisher.old) }
     requires alike { IsAbreast publisher.old → content_of features.old
@@ -105,25 +111,30 @@ fn told_to_last<R: Wait>(
     }
 }
 
-fn all_told<R: Wait>(rt: &R, alloc: Global, features: &mut Features) -> Mem<[Found; 3]> {
+fn all_told<R: Wait>(rt: &R, alloc: Global, features: &mut Features) -> Mem<[Found; 4]> {
     let (mut publisher, viewers) = Publisher::new(rt, alloc, features, 1)?;
     let all = told_to_last(rt, alloc, &mut publisher, viewers, features);
     publisher.end(rt);
     all
 }
 
-fn told_of_marks<R: Wait>(rt: &R, alloc: Global) -> Mem<[Found; 3]> {
+fn told_of_marks<R: Wait>(rt: &R, alloc: Global) -> Mem<[Found; 4]> {
     let schema = schema(alloc)?;
     let mut features = Features::new(alloc, &schema)?;
     all_told(rt, alloc, &mut features)
 }
 
 #[test]
-fn a_mark_is_found_once_it_is_published(rt: HostRuntime) -> Result<(), Fail> {
+fn each_mark_is_found_once_it_is_published(rt: HostRuntime) -> Result<(), Fail> {
     let all = told_of_marks(&rt, rt.alloc());
     assert_eq!(rt;
         all,
-        Ok([Found::Marks(0, 0), Found::Marks(1, 1), Found::Behind(1)])
+        Ok([
+            Found::Marks(0, 0),
+            Found::Marks(1, 1),
+            Found::Marks(2, 2),
+            Found::Behind(2)
+        ])
     );
     Ok(())
 }

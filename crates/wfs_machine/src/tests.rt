@@ -41,7 +41,7 @@ const THREE: Ask = Ask::Transact(
 
 const LOCK: Option<(u64, u64)> = Some((1, 1));
 
-static RUNS: [(&str, &[Step]); 11] = [
+static RUNS: [(&str, &[Step]); 13] = [
     (
         "a lock on one, on all, and on those that are free",
         &[
@@ -97,6 +97,39 @@ static RUNS: [(&str, &[Step]); 11] = [
                 1060,
                 Ask::Lock(Some(1), Take::AllOrNone, 60),
                 Want::Locked(Some((1, 2)), &[1], &[]),
+            ),
+        ],
+    ),
+    (
+        "a renewal at the deadline, which is refused and moves the clock",
+        &[
+            (1000, TWO, Want::Told(&[1, 2], &[], &[], 0)),
+            (
+                1000,
+                Ask::Lock(Some(1), Take::AllOrNone, 60),
+                Want::Locked(LOCK, &[1], &[]),
+            ),
+            (1060, Ask::Renew(1, 1), Want::Row(16, "lockId")),
+            (
+                1059,
+                Ask::Lock(None, Take::AllOrNone, 60),
+                Want::Locked(Some((1, 2)), &[1, 2], &[]),
+            ),
+        ],
+    ),
+    (
+        "those that are free, of which the first is not",
+        &[
+            (1000, TWO, Want::Told(&[1, 2], &[], &[], 0)),
+            (
+                1000,
+                Ask::Lock(Some(1), Take::AllOrNone, 300),
+                Want::Locked(LOCK, &[1], &[]),
+            ),
+            (
+                1000,
+                Ask::Lock(None, Take::Free, 300),
+                Want::Locked(Some((1, 2)), &[2], &[1]),
             ),
         ],
     ),

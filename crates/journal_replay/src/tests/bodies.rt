@@ -163,11 +163,17 @@ pub(super) static ROWS: &[Row] = &[
     ),
 ];
 
-/// The beginning of a checkpoint of the first opening, in which one mark was numbered.
+/// Mark.2 with the label A.
+const SECOND_MARK: &[u8] = b"\x02\0\0\0\x01\x01\0\0\0\0\0\0\0\0\0\x02\0\x03\x01\0\0\0\x01A\0\0";
+
+/// The beginning of a checkpoint of the first opening, in which two marks were numbered.
 const FIRST_BASE: &[u8] =
-    b"\x05\0\0\0\0\0\0\0\x01\0\x03\0\0\0\0\0\0\0\x01\0\0\0\0\0\0\0\0\0\0\0\0\0\0\0\0";
+    b"\x05\0\0\0\0\0\0\0\x01\0\x03\0\0\0\0\0\0\0\x02\0\0\0\0\0\0\0\0\0\0\0\0\0\0\0\0";
 
-/// Bodies, and those of a checkpoint of what they come to.
-pub(super) static TAKEN: &[&[u8]] = &[OPENING, CREATED, INSERT, DROPPED, CREATED];
+/// Bodies, and those of a checkpoint of what they come to: one mark of the two is left.
+pub(super) static TAKEN: &[&[u8]] = &[OPENING, CREATED, INSERT, SWAP, DROPPED, CREATED];
 
-pub(super) static CHECKPOINT: &[&[u8]] = &[FIRST_BASE, INSERT, CREATED];
+pub(super) static CHECKPOINT: &[&[u8]] = &[FIRST_BASE, SECOND_MARK, CREATED];
+
+/// Two openings with one number, of which the second is refused.
+pub(super) static OPENED_TWICE: &[&[u8]] = &[OPENING, OPENING];
