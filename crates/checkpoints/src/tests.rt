@@ -67,6 +67,34 @@ fn run<D: Disk + Drop>(
     }
 }
 
+// The same, and another checkpoint behind it: what that one answers, and the journal.
+fn run_twice<D: Disk + Drop>(
+    alloc: Global,
+    disks: Pair<D>,
+    limit: u64,
+) -> Result<(Result<(), CompactFault>, Journal<D>), Failed>
+    requires unused { Unused (D.images disks.a) × Unused (D.images disks.b) }
+    requires limit { (17 ≤ limit) × (limit ≤ 200) }
+{
+    match Journal::fresh(disks, limit) {
+        Err(_) => Err(Failed),
+        Ok(journal) => {
+            let mut journal = journal;
+            match compact(alloc, &mut journal, &mut Greetings { hi: true, ho: true }) {
+                Err(_) => Err(Failed),
+                Ok(()) => {
+                    let answer = compact(
+                        alloc,
+                        &mut journal,
+                        &mut Greetings { hi: true, ho: true },
+                    );
+                    Ok((answer, journal))
+                }
+            }
+        }
+    }
+}
+
 // side a, of generation 1 with no record: no call of a checkpoint changes it
 const FIRST: &[u8] = b"\x01WFSJNL\x01\0\0\0\0\0\0\0\x01\0";
 
@@ -171,6 +199,15 @@ fn a_checkpoint_is_as_long_as_its_records(rt: HostRuntime) -> Result<(), Fail> {
     let (a, b) = (empty_disk(alloc, &[], None)?, empty_disk(alloc, &[], None)?);
     let ran = run(alloc, Pair { a, b }, 31)?;
     assert_eq!(rt; seen_of(ran), (Ok(()), false, 2, 31));
+    Ok(())
+}
+
+#[test]
+fn a_second_one_has_all_records_too(rt: HostRuntime) -> Result<(), Fail> {
+    let alloc = rt.alloc();
+    let (a, b) = (empty_disk(alloc, &[], None)?, empty_disk(alloc, &[], None)?);
+    let ran = run_twice(alloc, Pair { a, b }, 31)?;
+    assert_eq!(rt; seen_of(ran), (Ok(()), false, 3, 31));
     Ok(())
 }
 

@@ -44,6 +44,24 @@ fn a_crash_keeps_the_first_writes(rt: HostRuntime) -> Result<(), Fail> {
     Ok(())
 }
 
+// `c` is written, then `d`, which is synced, and then `x` over the first byte.
+#[test]
+#[tactic(auto, unfolding(crate::specs::Story::read_after_all))]
+fn a_crash_keeps_what_was_synced(rt: HostRuntime) -> Result<(), Fail> {
+    let mut disk = small_disk(rt.alloc())?;
+    disk.write_at(2, b"c")?;
+    assert_eq!(rt; disk.len()?, 3);
+    // call 2 is listed
+    assert!(rt; disk.len().is_err());
+    write_and_sync(&mut disk, 3, b"d")?;
+    disk.write_at(0, b"x")?;
+    let mut into = [0; 8];
+    let mut crashed = disk.crash(0);
+    assert_eq!(rt; crashed.read(0, &mut into)?, 4);
+    assert!(rt; into.starts_with(b"abcd"));
+    Ok(())
+}
+
 // Call 2 is listed, the write of call 3 passes the room, call 7 is the stop; after a crash all calls up to the tenth
 // are made again, and just the room that was left is there.
 #[test]

@@ -4,6 +4,7 @@
 use super::*;
 use geom_core::{Geometry, Line, Polygon, Pos, Ring};
 use std::alloc::Global;
+use std::test::Fail;
 use wfs_ends::{Mem, Shared};
 
 const FAR: i64 = 1_000_000_000;
@@ -214,7 +215,20 @@ fn first_wrong(alloc: Global) -> Mem<Option<&'static str>> {
     Ok(None)
 }
 
+// The longest slope, and a corner beside it, within the greatest distance.
+fn lie_within_the_farthest(alloc: Global) -> Mem<bool> {
+    match (
+        shape(alloc, At((FAR, FAR)))?,
+        shape(alloc, Along((-FAR, FAR), (FAR, -FAR)))?,
+    ) {
+        (Some(a), Some(b)) => Ok(within_distance(&a, &b, FARTHEST_DISTANCE)),
+        _ => Ok(false),
+    }
+}
+
 #[test]
-fn least_distances_by_table(rt: HostRuntime) {
-    assert_eq!(rt; first_wrong(rt.alloc()), Ok(None));
+fn least_distances_by_table(rt: HostRuntime) -> Result<(), Fail> {
+    assert_eq!(rt; first_wrong(rt.alloc())?, None);
+    assert!(rt; lie_within_the_farthest(rt.alloc())?);
+    Ok(())
 }

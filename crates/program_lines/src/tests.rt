@@ -14,19 +14,21 @@ enum Line {
     Place,
     Record,
     Refused,
+    Kind,
 }
 
-static LINES: [(Line, &str); 7] = [
+static LINES: [(Line, &str); 8] = [
     (Line::Serving, "serving\n"),
     (Line::Counts, "types 3 features 2 queries 0 openings 1\n"),
     (Line::Sides, "side 283 to 208 bytes\n"),
     (
         Line::Rounds,
-        "rounds 4 entries 9 features 3 matched 4 locked 4\n",
+        "rounds 4 entries 9 features 3 matched 4 locked 2\n",
     ),
     (Line::Place, "wfsd: not a journal: a 1\n"),
     (Line::Record, "wfsd: not of this schema: 17\n"),
     (Line::Refused, "wfsd: schema refused: Key title\n"),
+    (Line::Kind, "wfsd: schema refused: Kind title\n"),
 ];
 
 fn write(sink: &mut MemSink, line: Line, name: Text) -> bool {
@@ -34,7 +36,7 @@ fn write(sink: &mut MemSink, line: Line, name: Text) -> bool {
         Line::Serving => put_serving(sink),
         Line::Counts => put_counts(sink, 3, 2, 0, 1),
         Line::Sides => put_sides(sink, 283, 208),
-        Line::Rounds => put_rounds(sink, 4, 9, 3, 4, 4),
+        Line::Rounds => put_rounds(sink, 4, 9, 3, 4, 2),
         Line::Place => {
             say_place(sink, false, 1);
             false
@@ -45,6 +47,10 @@ fn write(sink: &mut MemSink, line: Line, name: Text) -> bool {
         }
         Line::Refused => {
             say_refused(sink, &SchemaFault::Key(name));
+            false
+        }
+        Line::Kind => {
+            say_refused(sink, &SchemaFault::Kind(name));
             false
         }
     }

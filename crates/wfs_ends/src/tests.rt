@@ -67,7 +67,7 @@ fn a_link_in_memory_moves_its_bytes(rt: HostRuntime) -> Result<(), Fail> {
 fn a_buffer_makes_one_put_of_many_and_passes_a_long_piece_on(rt: HostRuntime) -> Result<(), Fail> {
     let alloc = rt.alloc();
     let mut buffer = Buffer::new(alloc)?;
-    let mut sink = MemSink::new(alloc, 70_010, vec![in alloc; 2]?)?;
+    let mut sink = MemSink::new(alloc, 70_010, vec![in alloc; 3]?)?;
     let mut buffered = Buffered {
         sink: &mut sink,
         buffer: &mut buffer,
@@ -81,9 +81,12 @@ fn a_buffer_makes_one_put_of_many_and_passes_a_long_piece_on(rt: HostRuntime) ->
         sink: &mut sink,
         buffer: &mut buffer,
     };
+    // what is held goes before it
+    assert_eq!(rt; put_all(&mut buffered, b"z"), Ok(()));
     assert_eq!(rt; put_all(&mut buffered, &long), Ok(()));
     let given = put_all(&mut buffered, b"y");
-    assert_eq!(rt; sink.bytes().len(), 70_009);
+    assert_eq!(rt; sink.bytes().len(), 70_010);
+    assert_eq!(rt; &sink.bytes()[8..11], b"yzx".as_slice());
     assert_eq!(rt; buffer.finish(&mut sink, given), Err(WriteFault));
     buffer.clear();
     assert_eq!(rt; buffer.finish(&mut sink, Ok(())), Ok(()));
