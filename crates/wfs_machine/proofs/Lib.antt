@@ -1,7 +1,6 @@
 pub mod Carrying
 pub mod Changes
 pub mod Laying
-pub mod Marks
 pub mod Places
 pub mod Stores
 pub mod Takings

@@ -15,6 +15,3 @@ mod viewing;
 
 pub use plain::Plain;
 pub use stored_queries::Stored;
-
-#[cfg(test)]
-mod tests;

@@ -20,6 +20,3 @@ pub use laws::{
     what_has_entered_stays, whatever_happens_is_sound,
 };
 pub use world::World;
-
-#[cfg(test)]
-mod tests;

@@ -1,4 +1,4 @@
--- What the tests need: requests that the schema of marks allows.
+-- Requests that the schema of marks allows.
 use Rattle.std.proofs.Common.{◌≡◌, ℕ, ◌<◌, ◌≤◌, List, [], ◌∷◌, Some, None, Ok, arith}
 use Rattle.std.specs.Prelude.{All, codes, length}
 use Rattle.feature_values.specs.declared.schema.Schema.{Schema}
@@ -55,14 +55,14 @@ stored_is_of schema query names of = record {
   different = λ i j d lt within. absurd (omega (arith, lt, rw names at within));
 }
 
-pub creation_is_of : (schema : Schema) (query : StoredQuery) → IsStoredOf schema query → IsOfSchema schema (CreateStored (query ∷ []))
-creation_is_of schema query of = record {
+pub creation_is_of : (schema : Schema) (definitions : List StoredQuery) → All (IsStoredOf schema) definitions → IsOfSchema schema (CreateStored definitions)
+creation_is_of schema definitions all = record {
   types = all_none _;
   queries = all_none _;
   names = all_none _;
   values = tt;
   actions = all_none _;
-  stored = alone (IsStoredOf schema) query of;
+  stored = all;
   periods = all_none _;
   kept = all_none _;
 }

@@ -1,31 +1,26 @@
 //! Events over one or two seats. What is seen was worked out by hand.
 
 ghost use Rattle.std.specs.Prelude.{◌≡◌, IfOk, All};
-ghost use Rattle.wfs_model.specs.OfSchema.{IsOfSchema};
 ghost use Rattle.transaction_core.specs.Marks.{AreMarks};
 ghost use Rattle.wfs_world.specs.Events.{IsEventOf};
 
-use super::*;
+use crate::requests::{Ask, Deed, reading, request, schema};
 use feature_values::Schema;
+use lock_table::Release;
 use std::alloc::Global;
 use std::mem::drop;
-use wfs_ends::{List, Mem};
-use wfs_model::{Reply, Request};
+use wfs_ends::{List, Mem, Text};
+use wfs_model::{Reply, Request, Take};
+use wfs_world::{Event, PutOutcome, Seen, World, WorldFault};
 
-mod marks;
+/// Two marks are inserted.
+const INSERT: Ask = Ask::Transact(None, Release::Whole, &[Deed::Insert(10), Deed::Insert(20)]);
 
-use marks::{counts, deletes, inserts, locks, schema};
+/// The first mark is locked for a minute.
+const LOCK: Ask = Ask::Lock(Some(1), Take::AllOrNone, 60);
 
-/// What is asked.
-#[derive(Clone, Copy, Debug, PartialEq, Eq)]
-enum Ask {
-    /// Two marks are inserted.
-    Insert,
-    /// The first mark is locked for a minute.
-    Lock,
-    /// The first mark is deleted under that lock.
-    Delete,
-}
+/// The first mark is deleted under that lock.
+const DELETE: Ask = Ask::Transact(Some((1, 1)), Release::Whole, &[Deed::Delete(Some(1))]);
 
 /// What happens.
 #[derive(Clone, Copy, Debug, PartialEq, Eq)]
@@ -38,6 +33,8 @@ enum Does {
     Leave(u32),
     /// The marks are counted at a front.
     Count(u32, u64),
+    /// A stored query is to go, asked as if that were a read at a front.
+    ReadDrop(u32, u64),
     Crash(bool),
     Reopen,
 }
@@ -61,7 +58,7 @@ type Step = (Does, Want);
 
 /// A fault that leaves the change begun, and a crash that finds it.
 static FOUND: [Step; 7] = [
-    (Does::Arrive(0, 1000, Ask::Insert), Want::Nothing),
+    (Does::Arrive(0, 1000, INSERT), Want::Nothing),
     (Does::Take(0), Want::Nothing),
     (Does::Put(0, PutOutcome::FaultBegun), Want::Nothing),
     (Does::Leave(0), Want::Fault),
@@ -70,13 +67,32 @@ static FOUND: [Step; 7] = [
     (Does::Count(0, 0), Want::Count(2)),
 ];
 
-/// Each event in its turn and none before it, and reads of both states.
-static TURNS: [Step; 26] = [
+/// A fault keeps a request out of the history. Where it leaves the journal clean, it ends also what an earlier one has begun, and no crash
+/// finds that.
+static FAULTS: [Step; 13] = [
+    (Does::Arrive(0, 1000, INSERT), Want::Nothing),
+    (Does::Take(0), Want::Nothing),
+    (Does::Put(0, PutOutcome::FaultBegun), Want::Nothing),
+    (Does::Enter(0), Want::NotNow),
+    (Does::Leave(0), Want::Fault),
+    (Does::Arrive(0, 1000, INSERT), Want::Nothing),
+    (Does::Take(0), Want::Nothing),
+    (Does::Put(0, PutOutcome::FaultClean), Want::Nothing),
+    (Does::Leave(0), Want::Fault),
+    (Does::Crash(true), Want::NotNow),
+    (Does::Crash(false), Want::Nothing),
+    (Does::Reopen, Want::Opening(2)),
+    (Does::Count(0, 0), Want::Count(0)),
+];
+
+/// Each event in its turn and none before it, and reads of both states. Nothing that may change the state is a read. A new opening has no
+/// history yet, so each seat has seen none of it, and reads what the journal kept.
+static TURNS: [Step; 30] = [
     (Does::Take(0), Want::NotNow),
-    (Does::Arrive(2, 1000, Ask::Insert), Want::NotNow),
-    (Does::Arrive(0, 1000, Ask::Insert), Want::Nothing),
-    (Does::Arrive(0, 1000, Ask::Insert), Want::NotNow),
-    (Does::Arrive(1, 900, Ask::Insert), Want::Nothing),
+    (Does::Arrive(2, 1000, INSERT), Want::NotNow),
+    (Does::Arrive(0, 1000, INSERT), Want::Nothing),
+    (Does::Arrive(0, 1000, INSERT), Want::NotNow),
+    (Does::Arrive(1, 900, INSERT), Want::Nothing),
     (Does::Put(0, PutOutcome::Done), Want::NotNow),
     (Does::Take(1), Want::NotNow),
     (Does::Take(0), Want::Nothing),
@@ -92,42 +108,44 @@ static TURNS: [Step; 26] = [
     (Does::Count(0, 0), Want::NotNow),
     (Does::Count(1, 2), Want::NotNow),
     (Does::Count(1, 1), Want::Count(2)),
+    (Does::ReadDrop(1, 1), Want::NotNow),
     (Does::Reopen, Want::NotNow),
     (Does::Take(1), Want::Nothing),
     (Does::Put(1, PutOutcome::Done), Want::Nothing),
     (Does::Enter(1), Want::Nothing),
     (Does::Leave(1), Want::Inserted(3)),
     (Does::Crash(true), Want::NotNow),
+    (Does::Crash(false), Want::Nothing),
+    (Does::Reopen, Want::Opening(2)),
+    (Does::Count(1, 0), Want::Count(4)),
 ];
 
-/// A lock that was handed an earlier moment lives from the last one on: a minute later less a second it is still there.
-static LOCKED: [Step; 15] = [
-    (Does::Arrive(0, 1000, Ask::Insert), Want::Nothing),
+/// A lock that was handed an earlier moment lives from the last one on: a minute later less a second it is still there. Locks end with the
+/// process, so the journal has nothing to take of one, and nothing to fail at.
+static LOCKED: [Step; 18] = [
+    (Does::Arrive(0, 1000, INSERT), Want::Nothing),
     (Does::Take(0), Want::Nothing),
     (Does::Put(0, PutOutcome::Done), Want::Nothing),
     (Does::Enter(0), Want::Nothing),
     (Does::Leave(0), Want::Inserted(1)),
-    (Does::Arrive(0, 900, Ask::Lock), Want::Nothing),
+    (Does::Arrive(0, 900, LOCK), Want::Nothing),
     (Does::Take(0), Want::Nothing),
+    (Does::Put(0, PutOutcome::Done), Want::NotNow),
+    (Does::Put(0, PutOutcome::FaultClean), Want::NotNow),
+    (Does::Put(0, PutOutcome::FaultBegun), Want::NotNow),
     (Does::Put(0, PutOutcome::NotNeeded), Want::Nothing),
     (Does::Enter(0), Want::Nothing),
     (Does::Leave(0), Want::Locked),
-    (Does::Arrive(0, 1059, Ask::Delete), Want::Nothing),
+    (Does::Arrive(0, 1059, DELETE), Want::Nothing),
     (Does::Take(0), Want::Nothing),
     (Does::Put(0, PutOutcome::Done), Want::Nothing),
     (Does::Enter(0), Want::Nothing),
     (Does::Leave(0), Want::Deleted(1)),
 ];
 
-fn request(alloc: Global, schema: &Schema, ask: Ask) -> Mem<Request>
-    requires { AreMarks schema.now }
-    ensures { IfOk result (IsOfSchema schema.now) }
-{
-    match ask {
-        Ask::Insert => inserts(alloc, schema),
-        Ask::Lock => locks(alloc, schema),
-        Ask::Delete => deletes(alloc, schema),
-    }
+// A stored query is to go.
+fn drops(alloc: Global) -> Mem<Request> {
+    Ok(Request::DropStored(Text::of(alloc, "urn:x:by")?))
 }
 
 fn event(alloc: Global, schema: &Schema, does: Does) -> Mem<Event>
@@ -149,7 +167,13 @@ fn event(alloc: Global, schema: &Schema, does: Does) -> Mem<Event>
             seat,
             front,
             moment: 1000,
-            request: counts(alloc)?,
+            request: reading(alloc, Ask::Count)?,
+        },
+        Does::ReadDrop(seat, front) => Event::Read {
+            seat,
+            front,
+            moment: 1000,
+            request: drops(alloc)?,
         },
         Does::Crash(with_begun) => Event::Crash { with_begun },
         Does::Reopen => Event::Reopen,
@@ -224,6 +248,11 @@ fn first_wrong(alloc: Global, seats: u32, steps: &[Step]) -> Mem<Option<usize>> 
 #[test]
 fn each_event_happens_in_its_turn(rt: HostRuntime) {
     assert_eq!(rt; first_wrong(rt.alloc(), 2, &TURNS), Ok(None));
+}
+
+#[test]
+fn a_fault_keeps_out_what_it_meets(rt: HostRuntime) {
+    assert_eq!(rt; first_wrong(rt.alloc(), 1, &FAULTS), Ok(None));
 }
 
 #[test]

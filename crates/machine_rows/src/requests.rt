@@ -211,10 +211,12 @@ pub enum Ask {
     Renew(u64, u64),
     /// The stored query `urn:x:by`, of the marks whose size is its parameter `l`.
     Create,
+    /// The same under the identifiers `urn:x:by` and `urn:x:too`, in one request.
+    CreateTwo,
     /// How many marks there are.
     Count,
-    /// The marks that the stored query selects for these parameters.
-    Use(&'static [(&'static str, &'static str)]),
+    /// The marks that the stored query of an identifier selects for these parameters.
+    Use(&'static str, &'static [(&'static str, &'static str)]),
     /// No request: an opening of this number begins.
     Reopen(u64),
     /// No request: the change that a transaction would make is played.
@@ -332,14 +334,14 @@ fn one_name(alloc: Global) -> Mem<List<Text>>
 }
 
 #[tactic(auto, using(transaction_core::proofs::Marks::alone, crate::proofs::Marks::stored_is_of))]
-fn stored(alloc: Global, schema: &Schema) -> Mem<StoredQuery>
+fn stored(alloc: Global, schema: &Schema, id: &'static str) -> Mem<StoredQuery>
     requires { AreMarks schema.now }
     ensures { IfOk result (IsStoredOf schema.now) }
 {
     let mut queries = Vec::new(alloc);
     queries.push(sized_query(alloc, schema)?)?;
     Ok(StoredQuery {
-        id: Text::of(alloc, "urn:x:by")?,
+        id: Text::of(alloc, id)?,
         title: Text::of(alloc, "")?,
         parameters: one_name(alloc)?,
         queries: List::of(queries),
@@ -354,8 +356,29 @@ fn create(alloc: Global, schema: &Schema) -> Mem<Request>
     ensures fitting { IfOk result (IsOfSchema schema.now) }
 {
     let mut all = Vec::new(alloc);
-    all.push(stored(alloc, schema)?)?;
+    all.push(stored(alloc, schema, "urn:x:by")?)?;
     Ok(Request::CreateStored(List::of(all)))
+}
+
+#[tactic(auto, using(transaction_core::proofs::Marks::alone, transaction_core::proofs::Marks::all_more))]
+fn two_stored(alloc: Global, schema: &Schema) -> Mem<List<StoredQuery>>
+    requires { AreMarks schema.now }
+    ensures { IfOk result (All (IsStoredOf schema.now)) }
+{
+    let mut all = Vec::new(alloc);
+    all.push(stored(alloc, schema, "urn:x:by")?)?;
+    all.push(stored(alloc, schema, "urn:x:too")?)?;
+    Ok(List::of(all))
+}
+
+#[tactic(auto, using(crate::proofs::Marks::creation_is_of))]
+fn create_two(alloc: Global, schema: &Schema) -> Mem<Request>
+    requires { AreMarks schema.now }
+    ensures change { IfOk result IsChange }
+    ensures fitting { IfOk result (IsOfSchema schema.now) }
+{
+    let definitions = two_stored(alloc, schema)?;
+    Ok(Request::CreateStored(definitions))
 }
 
 /// A changing request; or want of memory, where something else is asked.
@@ -369,6 +392,7 @@ pub fn request(alloc: Global, schema: &Schema, ask: Ask) -> Mem<Request>
         Ask::Lock(number, take, period) if period > 0 => lock(alloc, schema, number, take, period),
         Ask::Renew(opening, number) => Ok(renew(schema, opening, number)),
         Ask::Create => create(alloc, schema),
+        Ask::CreateTwo => create_two(alloc, schema),
         _ => Err(OutOfMemory),
     }
 }
@@ -400,12 +424,12 @@ fn features(hits: bool, alloc: Global, asked: Asked) -> Mem<Request>
     Ok(Request::GetFeatures(present(hits), List::of(all)))
 }
 
-/// A read: of a use of the stored query, or else how many marks there are.
+/// A read: of a use of a stored query, or else how many marks there are.
 pub fn reading(alloc: Global, ask: Ask) -> Mem<Request>
     ensures { IfOk result (λ request. IsChange request → ⊥) }
 {
-    if let Ask::Use(names) = ask {
-        let id = Text::of(alloc, "urn:x:by")?;
+    if let Ask::Use(id, names) = ask {
+        let id = Text::of(alloc, id)?;
         let given = given(alloc, names)?;
         return features(false, alloc, Asked::Stored { id, given });
     }

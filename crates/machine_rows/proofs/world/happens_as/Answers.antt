@@ -1,5 +1,5 @@
 use Rattle.wfs_world.proofs.Sequences.{happens_schema}
-use Rattle.wfs_world.proofs.tests.happens_as.Goals as goal
+use Rattle.machine_rows.proofs.world.happens_as.Goals as goal
 
 pub returns : goal.returns
 returns c = happens_schema _ _ _ _ c.step-seen.ensures

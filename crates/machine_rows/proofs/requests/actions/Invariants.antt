@@ -1,6 +1,6 @@
 use Rattle.std.specs.Prelude.{All}
 use Rattle.wfs_model.specs.OfSchema.{IsActionOf}
-use Rattle.wfs_machine.proofs.tests.requests.actions.Given as goal
+use Rattle.machine_rows.proofs.requests.actions.Given as goal
 
 abbrev pub invariant-loop-deed : goal.invariant-loop-deed
 invariant-loop-deed l = All (IsActionOf l.schema) l.actions.items

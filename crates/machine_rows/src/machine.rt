@@ -4,16 +4,13 @@
 ghost use Rattle.std.specs.Prelude.{◌≡◌};
 ghost use Rattle.transaction_core.specs.Marks.{AreMarks};
 
-use super::*;
+use crate::requests::{Ask, Deed, reading, request, schema};
 use feature_values::{Feature, Rid, Schema};
 use lock_table::{LockId, Release};
 use std::alloc::Global;
 use wfs_ends::Mem;
+use wfs_machine::Plain;
 use wfs_model::{Entry, Made, Refusal, Reply, Take};
-
-mod requests;
-
-use requests::{Ask, Deed, reading, request, schema};
 
 /// What is answered.
 enum Want {
@@ -41,7 +38,7 @@ const THREE: Ask = Ask::Transact(
 
 const LOCK: Option<(u64, u64)> = Some((1, 1));
 
-static RUNS: [(&str, &[Step]); 13] = [
+static RUNS: [(&str, &[Step]); 14] = [
     (
         "a lock on one, on all, and on those that are free",
         &[
@@ -297,9 +294,31 @@ static RUNS: [(&str, &[Step]); 13] = [
         &[
             (1000, TWO, Want::Told(&[1, 2], &[], &[], 0)),
             (1000, Ask::Create, Want::Created),
-            (1000, Ask::Use(&[("L", "20")]), Want::Marks(&[2])),
-            (1000, Ask::Use(&[]), Want::Row(10, "l")),
+            (
+                1000,
+                Ask::Use("urn:x:by", &[("L", "20")]),
+                Want::Marks(&[2]),
+            ),
+            (1000, Ask::Use("urn:x:by", &[]), Want::Row(10, "l")),
             (1000, Ask::Create, Want::Row(21, "urn:x:by")),
+        ],
+    ),
+    // A request may define several stored queries, and makes all of them or none.
+    (
+        "two stored queries of one request",
+        &[
+            (1000, TWO, Want::Told(&[1, 2], &[], &[], 0)),
+            (1000, Ask::CreateTwo, Want::Created),
+            (
+                1000,
+                Ask::Use("urn:x:by", &[("l", "10")]),
+                Want::Marks(&[1]),
+            ),
+            (
+                1000,
+                Ask::Use("urn:x:too", &[("l", "20")]),
+                Want::Marks(&[2]),
+            ),
         ],
     ),
     (
@@ -406,7 +425,7 @@ fn is_answer(reply: &Reply, want: &Want) -> bool {
     }
 }
 
-fn changed(machine: &mut Plain, schema: &Schema, moment: u64, ask: Ask) -> Mem<Reply>
+fn changed(alloc: Global, machine: &mut Plain, schema: &Schema, moment: u64, ask: Ask) -> Mem<Reply>
     requires same { machine.old.schema ≡ schema.now }
     requires marks { AreMarks schema.now }
     ensures { machine.new.schema ≡ machine.old.schema }
@@ -415,13 +434,13 @@ fn changed(machine: &mut Plain, schema: &Schema, moment: u64, ask: Ask) -> Mem<R
         seat: 0,
         moment,
         size: 0,
-        request: request(machine.alloc, schema, ask)?,
+        request: request(alloc, schema, ask)?,
     };
     machine.step(&entry)
 }
 
-#[tactic(auto, using(crate::proofs::Changes::made_keeps))]
-fn played(machine: &mut Plain, schema: &Schema, deeds: &'static [Deed]) -> Mem<bool>
+#[tactic(auto, using(wfs_machine::proofs::Changes::made_keeps))]
+fn played(alloc: Global, machine: &mut Plain, schema: &Schema, deeds: &'static [Deed]) -> Mem<bool>
     requires same { machine.old.schema ≡ schema.now }
     requires marks { AreMarks schema.now }
     ensures { machine.new.schema ≡ machine.old.schema }
@@ -431,7 +450,7 @@ fn played(machine: &mut Plain, schema: &Schema, deeds: &'static [Deed]) -> Mem<b
         seat: 0,
         moment: 0,
         size: 0,
-        request: request(machine.alloc, schema, ask)?,
+        request: request(alloc, schema, ask)?,
     };
     match machine.change_of(&entry)? {
         Some(change) => {
@@ -442,7 +461,14 @@ fn played(machine: &mut Plain, schema: &Schema, deeds: &'static [Deed]) -> Mem<b
     }
 }
 
-fn answered(machine: &mut Plain, schema: &Schema, moment: u64, ask: Ask, want: &Want) -> Mem<bool>
+fn answered(
+    alloc: Global,
+    machine: &mut Plain,
+    schema: &Schema,
+    moment: u64,
+    ask: Ask,
+    want: &Want,
+) -> Mem<bool>
     requires same { machine.old.schema ≡ schema.now }
     requires marks { AreMarks schema.now }
     ensures { machine.new.schema ≡ machine.old.schema }
@@ -452,23 +478,28 @@ fn answered(machine: &mut Plain, schema: &Schema, moment: u64, ask: Ask, want: &
             machine.reopen(opening);
             Ok(true)
         }
-        Ask::Play(deeds) => played(machine, schema, deeds),
-        Ask::Count | Ask::Use(_) => {
-            let reply = machine.read(moment, &reading(machine.alloc, ask)?)?;
+        Ask::Play(deeds) => played(alloc, machine, schema, deeds),
+        Ask::Count | Ask::Use(..) => {
+            let reply = machine.read(moment, &reading(alloc, ask)?)?;
             Ok(is_answer(&reply, want))
         }
-        _ => Ok(is_answer(&changed(machine, schema, moment, ask)?, want)),
+        _ => Ok(is_answer(&changed(alloc, machine, schema, moment, ask)?, want)),
     }
 }
 
 // The first step of a run that is answered otherwise.
-fn first_of(machine: &mut Plain, schema: &Schema, steps: &[Step]) -> Mem<Option<usize>>
+fn first_of(
+    alloc: Global,
+    machine: &mut Plain,
+    schema: &Schema,
+    steps: &[Step],
+) -> Mem<Option<usize>>
     requires same { machine.old.schema ≡ schema.now }
     requires marks { AreMarks schema.now }
 {
     for i in 0..steps.len() {
         let (moment, ask, want) = &steps[i];
-        if !answered(machine, schema, *moment, *ask, want)? {
+        if !answered(alloc, machine, schema, *moment, *ask, want)? {
             return Ok(Some(i));
         }
     }
@@ -479,7 +510,7 @@ fn run(alloc: Global, schema: &Schema, steps: &[Step]) -> Mem<Option<usize>>
     requires { AreMarks schema.now }
 {
     let mut machine = Plain::new(alloc, schema.copy(alloc)?)?;
-    first_of(&mut machine, schema, steps)
+    first_of(alloc, &mut machine, schema, steps)
 }
 
 fn first_in(alloc: Global, schema: &Schema) -> Mem<Option<(&'static str, usize)>>

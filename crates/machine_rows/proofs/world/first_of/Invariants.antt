@@ -1,5 +1,5 @@
 use Rattle.std.proofs.Common.{◌≡◌}
-use Rattle.wfs_world.proofs.tests.first_of.Given as goal
+use Rattle.machine_rows.proofs.world.first_of.Given as goal
 
 abbrev pub invariant-loop-i : goal.invariant-loop-i
 invariant-loop-i l = l.world.schema ≡ l.schema
