@@ -19,6 +19,7 @@ use wfs_model::Limits;
 use wfs_store::Store;
 
 mod beside;
+mod faults;
 
 const SCHEMA: &str =
     "title = \"Marks\"\naddress = \"http://localhost:8080/wfs\"\nnamespace = \"http://example.org/marks\"\nprefix = \"m\"\nsrs = [\"urn:ogc:def:crs:EPSG::25832\", \"EPSG:25832\"]\n[[type]]\nname = \"Mark\"\nproperty = [ {name=\"label\", kind=\"text\", required=true, max=40} ]\n";
@@ -39,6 +40,9 @@ const FIRST_MARK: &str =
 
 const SECOND_MARK: &str =
     "HTTP/1.1 200 OK\r\nContent-Type: text/xml\r\nContent-Length: 492\r\n\r\n<?xml version=\"1.0\" encoding=\"UTF-8\"?><wfs:TransactionResponse xmlns:wfs=\"http://www.opengis.net/wfs/2.0\" xmlns:fes=\"http://www.opengis.net/fes/2.0\" version=\"2.0.2\"><wfs:TransactionSummary><wfs:totalInserted>1</wfs:totalInserted><wfs:totalUpdated>0</wfs:totalUpdated><wfs:totalReplaced>0</wfs:totalReplaced><wfs:totalDeleted>0</wfs:totalDeleted></wfs:TransactionSummary><wfs:InsertResults><wfs:Feature><fes:ResourceId rid=\"Mark.2\"/></wfs:Feature></wfs:InsertResults></wfs:TransactionResponse>";
+
+const NONE_MATCHED: &str =
+    "HTTP/1.1 200 OK\r\nContent-Type: application/gml+xml; version=3.2\r\nContent-Length: 253\r\n\r\n<?xml version=\"1.0\" encoding=\"UTF-8\"?><wfs:FeatureCollection xmlns:wfs=\"http://www.opengis.net/wfs/2.0\" xmlns:gml=\"http://www.opengis.net/gml/3.2\" xmlns:m=\"http://example.org/marks\" timeStamp=\"1970-01-01T00:16:40Z\" numberMatched=\"0\" numberReturned=\"0\"/>";
 
 const ONE_MATCHED: &str =
     "HTTP/1.1 200 OK\r\nContent-Type: application/gml+xml; version=3.2\r\nContent-Length: 253\r\n\r\n<?xml version=\"1.0\" encoding=\"UTF-8\"?><wfs:FeatureCollection xmlns:wfs=\"http://www.opengis.net/wfs/2.0\" xmlns:gml=\"http://www.opengis.net/gml/3.2\" xmlns:m=\"http://example.org/marks\" timeStamp=\"1970-01-01T00:16:40Z\" numberMatched=\"1\" numberReturned=\"0\"/>";
@@ -147,15 +151,16 @@ fn marks(alloc: Global) -> Mem<Schema>
     }
 }
 
-// An empty file.
-fn disk(alloc: Global) -> Mem<MemDisk> {
-    MemDisk::new(alloc, Vec::new(alloc), 200, 2_000, Vec::new(alloc), None)
+// An empty file, of whose disk the listed calls fail.
+fn disk(alloc: Global, failing: &[u64]) -> Mem<MemDisk> {
+    let failing = Vec::from_slice(alloc, failing)?;
+    MemDisk::new(alloc, Vec::new(alloc), 200, 2_000, failing, None)
 }
 
-// Two empty files.
-fn no_files(alloc: Global) -> Mem<Pair<MemDisk>> {
-    let a = disk(alloc)?;
-    let b = disk(alloc)?;
+// Two empty files. The listed calls of the first one's disk fail.
+fn no_files(alloc: Global, failing: &[u64]) -> Mem<Pair<MemDisk>> {
+    let a = disk(alloc, failing)?;
+    let b = disk(alloc, &[])?;
     Ok(Pair { a, b })
 }
 
@@ -182,11 +187,28 @@ fn link(alloc: Global, input: &str) -> Mem<MemLink> {
     MemLink::new(alloc, input, 2_000, Vec::new(alloc), Vec::new(alloc))
 }
 
-// A worker at the moment 1000 with one link, from which this comes.
-fn slot<'a>(alloc: Global, signals: &'a Signals, role: Role, input: &str) -> Mem<Given<'a>> {
-    let clock = ListClock::new(vec![in alloc; 1000u64]?);
+// An acceptor of one link, from which this comes. Its listed calls fail.
+fn acceptor(alloc: Global, input: &str, failing: &[u64]) -> Mem<MemAcceptor> {
+    let failing = Vec::from_slice(alloc, failing)?;
     let links = vec![in alloc; link(alloc, input)?]?;
-    let acceptor = MemAcceptor::new(links, Vec::new(alloc));
+    Ok(MemAcceptor::new(links, failing))
+}
+
+// A clock at the moment 1000.
+fn clock(alloc: Global) -> Mem<ListClock> {
+    Ok(ListClock::new(vec![in alloc; 1000u64]?))
+}
+
+// A worker at the moment 1000 with one link, from which this comes. The listed calls of its acceptor fail.
+fn slot<'a>(
+    alloc: Global,
+    signals: &'a Signals,
+    role: Role,
+    input: &str,
+    failing: &[u64],
+) -> Mem<Given<'a>> {
+    let clock = clock(alloc)?;
+    let acceptor = acceptor(alloc, input, failing)?;
     let gate = Post {
         signals,
         role,
@@ -200,11 +222,16 @@ fn slot<'a>(alloc: Global, signals: &'a Signals, role: Role, input: &str) -> Mem
     })
 }
 
-// One worker, whom nobody holds.
-fn one_slot<'a>(alloc: Global, signals: &'a Signals, input: &str) -> Mem<Vec<Given<'a>>>
+// One worker, whom nobody holds. The listed calls of its acceptor fail.
+fn one_slot<'a>(
+    alloc: Global,
+    signals: &'a Signals,
+    input: &str,
+    failing: &[u64],
+) -> Mem<Vec<Given<'a>>>
     ensures { IfOk result (λ slots. length slots.items ≡ 1) }
 {
-    let one = slot(alloc, signals, Role::Free, input)?;
+    let one = slot(alloc, signals, Role::Free, input, failing)?;
     Ok(vec![in alloc; one]?)
 }
 
@@ -217,8 +244,8 @@ fn two_slots<'a>(
 ) -> Mem<Vec<Given<'a>>>
     ensures { IfOk result (λ slots. length slots.items ≡ 2) }
 {
-    let one = slot(alloc, signals, first.0, first.1)?;
-    let other = slot(alloc, signals, second.0, second.1)?;
+    let one = slot(alloc, signals, first.0, first.1, &[])?;
+    let other = slot(alloc, signals, second.0, second.1, &[])?;
     Ok(vec![in alloc; one, other]?)
 }
 
@@ -242,27 +269,45 @@ fn left_by<'a>(served: Served<MemAcceptor, ListClock, Post<'a>, MemDisk>) -> Opt
     }
 }
 
-// Serves the links of these workers over a store on two files.
+// Serves the links of these workers, so many of each at most, over a store on two files.
 fn serve_on<'a, R: Threads + Wait + Sync>(
     rt: &R,
     alloc: Global,
     schema: &Schema,
     disks: Pair<MemDisk>,
     slots: Vec<Given<'a>>,
+    limit: Option<u32>,
 ) -> Mem<Option<Run<'a>>>
     requires rules { KeepsRules schema.now }
     requires slots { (0 < length slots.items) × (length slots.items ≤ 16) }
 {
     let store = start(alloc, disks, schema)?;
-    Ok(left_by(serve(rt, alloc, store, schema, slots, None)))
+    Ok(left_by(serve(rt, alloc, store, schema, slots, limit)))
+}
+
+// What was written on the one link of an acceptor.
+fn written_on(acceptor: &MemAcceptor) -> &[u8] {
+    match acceptor.links() {
+        [link] => link.written(),
+        _ => &[],
+    }
 }
 
 // What was written on the one link of a worker.
 fn written<'a>(worker: &'a Left<'_>) -> &'a [u8] {
-    match worker.slot.acceptor.links() {
-        [link] => link.written(),
-        _ => &[],
+    written_on(&worker.slot.acceptor)
+}
+
+// Whether bytes are these answers, one after the other.
+fn are_answers(bytes: &[u8], answers: &[&str]) -> bool {
+    let mut rest = bytes;
+    for answer in answers {
+        match rest.strip_prefix(answer.as_bytes()) {
+            Some(behind) => rest = behind,
+            None => return false,
+        }
     }
+    rest.is_empty()
 }
 
 // ---- two insertions side by side
@@ -295,8 +340,8 @@ fn insert_both<R: Threads + Wait + Sync>(
     requires { KeepsRules schema.now }
 {
     let slots = two_slots(alloc, signals, (Role::Free, INSERT), (Role::Free, INSERT))?;
-    let disks = no_files(alloc)?;
-    Ok(match serve_on(rt, alloc, schema, disks, slots)? {
+    let disks = no_files(alloc, &[])?;
+    Ok(match serve_on(rt, alloc, schema, disks, slots, None)? {
         Some(run) => files_if(run),
         None => None,
     })
@@ -323,8 +368,8 @@ fn are_found_again<R: Threads + Wait + Sync>(
 ) -> Mem<bool>
     requires { KeepsRules schema.now }
 {
-    let slots = one_slot(alloc, signals, HITS)?;
-    Ok(has_found_two(serve_on(rt, alloc, schema, disks, slots)?))
+    let slots = one_slot(alloc, signals, HITS, &[])?;
+    Ok(has_found_two(serve_on(rt, alloc, schema, disks, slots, None)?))
 }
 
 // Whether two workers insert a mark each, and the next run finds both.
@@ -365,8 +410,8 @@ fn both_meet<R: Threads + Wait + Sync>(rt: &R, alloc: Global, schema: &Schema) -
         (Role::Changes, INSERT),
         (Role::Reads, TWO_HITS),
     )?;
-    let disks = no_files(alloc)?;
-    let met = have_met(serve_on(rt, alloc, schema, disks, slots)?);
+    let disks = no_files(alloc, &[])?;
+    let met = have_met(serve_on(rt, alloc, schema, disks, slots, None)?);
     Ok(met && signals.late.load(Ordering::SeqCst) == 0)
 }
 

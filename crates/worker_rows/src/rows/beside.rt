@@ -3,8 +3,8 @@
 ghost use Rattle.feature_schema.specs.Rules.{KeepsRules};
 
 use super::{
-    ONE_MATCHED, Role, Run, Signals, TWO_HITS, marks, no_files, no_signals, serve_on, two_slots,
-    written,
+    NONE_MATCHED, ONE_MATCHED, Role, Run, Signals, TWO_HITS, marks, no_files, no_signals, serve_on,
+    two_slots, written,
 };
 use feature_values::Schema;
 use std::alloc::Global;
@@ -16,9 +16,6 @@ use wfs_ends::Mem;
 
 const TWO_INSERTS: &str =
     "POST /wfs HTTP/1.1\r\nHost: h\r\nContent-Length: 205\r\n\r\n<wfs:Transaction service=\"WFS\" version=\"2.0.2\" xmlns:wfs=\"http://www.opengis.net/wfs/2.0\" xmlns:m=\"http://example.org/marks\"><wfs:Insert><m:Mark><m:label>A</m:label></m:Mark></wfs:Insert></wfs:Transaction>POST /wfs HTTP/1.1\r\nHost: h\r\nContent-Length: 205\r\n\r\n<wfs:Transaction service=\"WFS\" version=\"2.0.2\" xmlns:wfs=\"http://www.opengis.net/wfs/2.0\" xmlns:m=\"http://example.org/marks\"><wfs:Insert><m:Mark><m:label>A</m:label></m:Mark></wfs:Insert></wfs:Transaction>";
-
-const NONE_MATCHED: &str =
-    "HTTP/1.1 200 OK\r\nContent-Type: application/gml+xml; version=3.2\r\nContent-Length: 253\r\n\r\n<?xml version=\"1.0\" encoding=\"UTF-8\"?><wfs:FeatureCollection xmlns:wfs=\"http://www.opengis.net/wfs/2.0\" xmlns:gml=\"http://www.opengis.net/gml/3.2\" xmlns:m=\"http://example.org/marks\" timeStamp=\"1970-01-01T00:16:40Z\" numberMatched=\"0\" numberReturned=\"0\"/>";
 
 // Whether the last answer of the worker that reads was this.
 fn has_read(run: Option<Run<'_>>, answer: &str) -> bool {
@@ -44,8 +41,8 @@ fn is_read_so<R: Threads + Wait + Sync>(
 {
     let holds = (Role::Holds(turn), TWO_INSERTS);
     let slots = two_slots(alloc, signals, holds, (Role::Reads, TWO_HITS))?;
-    let disks = no_files(alloc)?;
-    Ok(has_read(serve_on(rt, alloc, schema, disks, slots)?, answer))
+    let disks = no_files(alloc, &[])?;
+    Ok(has_read(serve_on(rt, alloc, schema, disks, slots, None)?, answer))
 }
 
 // The same, where no gate gave up.
