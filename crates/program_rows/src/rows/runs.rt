@@ -176,6 +176,49 @@ fn a_first_run_makes_side_a(rt: HostRuntime) -> Result<(), Fail> {
     Ok(())
 }
 
+// ---- a side of a million bytes
+
+// A side's head and the first opening: 16 + 107 bytes.
+const FIRST: &[u8] =
+    b"\x01WFSJNL\x01\0\0\0\0\0\0\0\x01\x01\0\0\0f\x01\0\0\0\0\0\0\0\x01\0\0\0YMark(label:text,size:integer,place:point);Field(name:text,area:polygon);Way(course:line);";
+
+// The record that puts Mark.1 with the label A: 31 bytes.
+const MARK_1: &[u8] =
+    b"\x01\0\0\0\x1a\x02\0\0\0\x01\x01\0\0\0\0\0\0\0\0\0\x01\0\x03\x01\0\0\0\x01A\0\0";
+
+// The first opening, and the same mark put 33,000 times: 123 + 33,000 x 31 + 1 = 1,023,124 bytes.
+fn long_side(alloc: Global) -> Mem<Vec<u8>> {
+    let mut bytes = Vec::from_slice(alloc, FIRST)?;
+    for _ in 0..33_000 {
+        bytes.extend_from_slice(MARK_1)?;
+    }
+    bytes.push(0)?;
+    Ok(bytes)
+}
+
+fn with_long_side(alloc: Global) -> Mem<Pair<MemDisk>> {
+    Ok(Pair {
+        a: disk_with(alloc, &long_side(alloc)?, &[], None)?,
+        b: disk_with(alloc, b"", &[], None)?,
+    })
+}
+
+// Whether a session without a message adds just its opening, of 107 bytes, to that side.
+fn goes_on_behind<R: Threads + Wait + Sync>(rt: &R, alloc: Global) -> Mem<bool> {
+    let disks = with_long_side(alloc)?;
+    match go(rt, alloc, &NO_MESSAGE[0], Some(disks))? {
+        Some(mut disks) => Ok(has_length(&mut disks.a, 1_023_231) && has_length(&mut disks.b, 0)),
+        None => Ok(false),
+    }
+}
+
+#[test]
+fn a_side_of_a_million_bytes_has_room(rt: HostRuntime) -> Result<(), Fail> {
+    // a side may have 268,435,456 bytes, and a start leaves one of 67,108,864 or less as it is
+    assert_eq!(rt; goes_on_behind(&rt, rt.alloc()), Ok(true));
+    Ok(())
+}
+
 // ---- locks
 
 const NEW_LOCK: &str =

@@ -1,6 +1,7 @@
 //! What sessions answer, and how they end.
 
 use super::*;
+use disk_core::Disk;
 
 // Whether a session over an input whose listed takes fail, with an output of so many bytes, comes to an end and to an output.
 fn comes_to<R: Threads + Wait + Sync>(
@@ -302,8 +303,9 @@ fn a_body_is_asked_for_and_a_message_may_be_cut(rt: HostRuntime) {
     );
 }
 
-// Words, a schema, and the status and the line that a run over them comes to.
-static LINES: [(&[&str], &str, u8, &str); 4] = [
+// Words, a schema, and the status and the line that a run over them comes to. Words and schema are judged before the store is started, so
+// none of these asks a disk.
+static LINES: [(&[&str], &str, u8, &str); 8] = [
     (&["talk"], SCHEMA, 2, "wfsd: bad words\n"),
     (&["talk", "-d"], SCHEMA, 2, "wfsd: bad words\n"),
     (
@@ -313,9 +315,33 @@ static LINES: [(&[&str], &str, u8, &str); 4] = [
         "wfsd: schema refused: Key srs\n",
     ),
     (&["talk", "d"], "=", 3, "wfsd: schema refused: NotToml\n"),
+    (&["check", "d"], "=", 3, "wfsd: schema refused: NotToml\n"),
+    (&["compact", "d"], "=", 3, "wfsd: schema refused: NotToml\n"),
+    (
+        &["drill", "3", "d"],
+        "=",
+        3,
+        "wfsd: schema refused: NotToml\n",
+    ),
+    (
+        &["serve", "--listen", "x", "--workers", "1", "d"],
+        "=",
+        3,
+        "wfsd: schema refused: NotToml\n",
+    ),
 ];
 
-// Whether a run over this schema and an input comes to a status and an output, and holds no session.
+// Whether a run came to a status and a line, held no session, and asked no disk: of each the first call, which fails, is the one made here.
+fn is_line(held: (Left, MemSink), status: u8, line: &str) -> bool {
+    let (left, out) = held;
+    let is_so = end_of(&left) == (status, None) && out.bytes() == line.as_bytes();
+    match left.disks {
+        Some(mut disks) => is_so && disks.a.len().is_err() && disks.b.len().is_err(),
+        None => false,
+    }
+}
+
+// Whether a run over this schema and an input comes to a status and a line, before any disk is asked.
 fn says<R: Threads + Wait + Sync>(
     rt: &R,
     alloc: Global,
@@ -325,8 +351,10 @@ fn says<R: Threads + Wait + Sync>(
     line: &str,
 ) -> Mem<bool> {
     let input = "GET / HTTP/1.1\r\n\r\n";
-    let (end, out) = run(rt, alloc, words, schema, input, &[], 1_000)?;
-    Ok(end == (status, None) && out.bytes() == line.as_bytes())
+    let ready = make_ready(alloc, words, schema, input, &[], 1_000)?;
+    let a = disk_with(alloc, b"", &[0], None)?;
+    let b = disk_with(alloc, b"", &[0], None)?;
+    Ok(is_line(hold(rt, alloc, ready, Pair { a, b }), status, line))
 }
 
 // The first row of `LINES` of which something else comes.
@@ -343,6 +371,49 @@ fn said_otherwise<R: Threads + Wait + Sync>(rt: &R, alloc: Global) -> Mem<Option
 #[test]
 fn words_and_schemas_are_refused_by_a_line(rt: HostRuntime) {
     assert_eq!(rt; said_otherwise(&rt, rt.alloc()), Ok(None));
+}
+
+// The schema with line feeds behind it, so many bytes in all.
+fn schema_of(alloc: Global, length: usize) -> Mem<String> {
+    let mut text = String::from_str(alloc, SCHEMA)?;
+    for _ in SCHEMA.len()..length {
+        text.push_str("\n")?;
+    }
+    Ok(text)
+}
+
+// Whether a session without a message, over a schema of so many bytes, comes to an end and to an output.
+fn ends_over<R: Threads + Wait + Sync>(
+    rt: &R,
+    alloc: Global,
+    length: usize,
+    end: End,
+    output: &str,
+) -> Mem<bool> {
+    let schema = schema_of(alloc, length)?;
+    let (found, out) = run(rt, alloc, &["talk", "d"], schema.as_str(), "", &[], 1_000)?;
+    Ok(found == end && out.bytes() == output.as_bytes())
+}
+
+#[test]
+fn a_schema_has_so_many_bytes_at_most(rt: HostRuntime) {
+    // 1,048,576 are not too many; one more is refused, and is no fault of the file
+    assert_eq!(rt;
+        ends_over(&rt, rt.alloc(), 1_048_576, (0, Some(0)), ""),
+        Ok(true),
+        "the most"
+    );
+    assert_eq!(rt;
+        ends_over(
+            &rt,
+            rt.alloc(),
+            1_048_577,
+            (3, None),
+            "wfsd: schema refused: TooMany\n"
+        ),
+        Ok(true),
+        "one more"
+    );
 }
 
 static TWO: [Message; 1] = [("", TWO_MARKS)];
