@@ -1,4 +1,5 @@
-//! A start on a side of more than 67,108,864 bytes, in which the same fields are put again and again: what the store tells, and the other side.
+//! A start on a side of 67,108,865 bytes, and of one byte less, in which the same fields are put again and again: what the store tells, and the
+//! other side.
 
 ghost use Rattle.feature_schema.specs.Rules.{KeepsRules};
 
@@ -19,6 +20,12 @@ use wfs_store::Store;
 // (hexadecimal 404c05): 2, and how many parts there are in 4 bytes. The record has 4,213,770 bytes.
 const ALL: &[u8] = b"\x01\0\x40\x4c\x05\x02\0\0\x04\0";
 
+// The same with 949 fields, of which the last one's name has 1,142 letters: 5 + 948 x 4,115 + 1,161 = 3,902,186 (3b8aea). 3,902,191 bytes.
+const LONGER: (&[u8], usize) = (b"\x01\0\x3b\x8a\xea\x02\0\0\x03\xb5", 1_142);
+
+// And with a letter less (3b8ae9): 3,902,190 bytes.
+const LONGEST_KEPT: (&[u8], usize) = (b"\x01\0\x3b\x8a\xe9\x02\0\0\x03\xb5", 1_141);
+
 // The same with 1,000 fields, as a checkpoint has them: 5 + 1,000 x 4,115 = 4,115,005 (3eca3d). 4,115,010 bytes.
 const THOUSAND: &[u8] = b"\x01\0\x3e\xca\x3d\x02\0\0\x03\xe8";
 
@@ -30,12 +37,19 @@ const OTHERS: &[u8] = b"\x01\0\x01\x81\xcd\x02\0\0\0\x18";
 const BASE: &[u8] =
     b"\x01\0\0\0\x23\x05\0\0\0\0\0\0\0\x01\0\x03\0\0\0\0\0\0\0\0\0\0\0\0\0\0\x04\0\0\0\0\0\0\0\0\0";
 
-// A part that puts a field: 1, the type 1 in 2 bytes, its number in 8, two values in 2; a text of 4,096 bytes (1000), and null. 4,115 bytes.
-fn put_field(bytes: &mut Vec<u8>, number: u64) -> Mem<()> {
+// The longest name.
+const NAME: [u8; 4_096] = [b'n'; 4_096];
+
+// A part that puts a field with a name of so many letters: 1, the type 1 in 2 bytes, its number in 8, two values in 2; a text, 1 and its
+// length in 4 bytes, and null. 19 bytes and the name, 4,115 with the longest.
+fn put_field(bytes: &mut Vec<u8>, number: u64, letters: usize) -> Mem<()>
+    requires { letters ≤ 4096 }
+{
     bytes.extend_from_slice(b"\x01\0\x01")?;
     bytes.extend_from_slice(&number.to_be_bytes())?;
-    bytes.extend_from_slice(b"\0\x02\x01\0\0\x10\0")?;
-    bytes.extend_from_slice(&[b'n'; 4_096])?;
+    bytes.extend_from_slice(b"\0\x02\x01")?;
+    bytes.extend_from_slice(&(letters as u32).to_be_bytes())?;
+    bytes.extend_from_slice(&NAME[..letters])?;
     bytes.push(0)?;
     Ok(())
 }
@@ -44,19 +58,31 @@ fn put_field(bytes: &mut Vec<u8>, number: u64) -> Mem<()> {
 fn put_fields(bytes: &mut Vec<u8>, head: &[u8], from: u64, to: u64) -> Mem<()> {
     bytes.extend_from_slice(head)?;
     for number in from..to {
-        put_field(bytes, number)?;
+        put_field(bytes, number, NAME.len())?;
     }
     Ok(())
 }
 
 // ---- sides
 
-// The first opening, and 16 times all fields: 16 + 107 + 16 x 4,213,770 + 1 = 67,420,444 bytes.
-fn long_side(alloc: Global) -> Mem<Vec<u8>> {
+// A record between others, which puts the fields up to one whose name has so many letters.
+fn put_shorter(bytes: &mut Vec<u8>, record: (&[u8], usize)) -> Mem<()>
+    requires { record.1 ≤ 4096 }
+{
+    put_fields(bytes, record.0, 1, 949)?;
+    put_field(bytes, 949, record.1)
+}
+
+// The first opening, and 15 times all fields, with that record behind the first time: 16 + 107 + 15 x 4,213,770 + 1 = 63,206,674 bytes and
+// the record.
+fn long_side(alloc: Global, shorter: (&[u8], usize)) -> Mem<Vec<u8>>
+    requires { shorter.1 ≤ 4096 }
+{
     let mut record = Vec::new(alloc);
     put_fields(&mut record, ALL, 1, 1_025)?;
-    let mut bytes = joined(alloc, &[HEAD_1, OPENING_1])?;
-    for _ in 0..16 {
+    let mut bytes = joined(alloc, &[HEAD_1, OPENING_1, &record])?;
+    put_shorter(&mut bytes, shorter)?;
+    for _ in 0..14 {
         bytes.extend_from_slice(&record)?;
     }
     bytes.extend_from_slice(CLOSED)?;
@@ -77,9 +103,11 @@ fn disk(alloc: Global, bytes: Vec<u8>) -> Mem<MemDisk> {
     MemDisk::new(alloc, bytes, 5_000, 5_000_000, Vec::new(alloc), None)
 }
 
-fn disks(alloc: Global) -> Mem<Pair<MemDisk>> {
+fn disks(alloc: Global, shorter: (&[u8], usize)) -> Mem<Pair<MemDisk>>
+    requires { shorter.1 ≤ 4096 }
+{
     Ok(Pair {
-        a: disk(alloc, long_side(alloc)?)?,
+        a: disk(alloc, long_side(alloc, shorter)?)?,
         b: disk(alloc, Vec::new(alloc))?,
     })
 }
@@ -109,7 +137,7 @@ fn is_short<D: Disk + Drop>(store: Store<D>, want: &[u8], into: &mut [u8]) -> bo
 fn starts_short(alloc: Global, schema: &Schema, want: &[u8], into: &mut [u8]) -> Mem<bool>
     requires { KeepsRules schema.now }
 {
-    match started(alloc, disks(alloc)?, schema, 9) {
+    match started(alloc, disks(alloc, LONGER)?, schema, 9) {
         Ok(store) => Ok(is_short(store, want, into)),
         Err(_) => Ok(false),
     }
@@ -120,6 +148,33 @@ fn is_made_shorter(alloc: Global) -> Mem<bool> {
     let want = short_side(alloc)?;
     let mut into = vec![in alloc; 0; 4_213_945]?;
     starts_short(alloc, &schema, &want, &mut into)
+}
+
+// Whether the side is the same with the second opening behind it, of 107 bytes, and the other one has none.
+fn is_kept<D: Disk + Drop>(store: Store<D>) -> bool {
+    let told = told_by(&store);
+    let mut disks = store.close();
+    told == (67_108_971, 1_024, 2) && disks.b.len() == Ok(0)
+}
+
+fn starts_long(alloc: Global, schema: &Schema) -> Mem<bool>
+    requires { KeepsRules schema.now }
+{
+    match started(alloc, disks(alloc, LONGEST_KEPT)?, schema, 9) {
+        Ok(store) => Ok(is_kept(store)),
+        Err(_) => Ok(false),
+    }
+}
+
+fn is_kept_as_it_is(alloc: Global) -> Mem<bool> {
+    let schema = schema(alloc)?;
+    starts_long(alloc, &schema)
+}
+
+#[test]
+fn the_longest_side_that_is_kept(rt: HostRuntime) -> Result<(), Fail> {
+    assert_eq!(rt; is_kept_as_it_is(rt.alloc()), Ok(true));
+    Ok(())
 }
 
 #[test]
