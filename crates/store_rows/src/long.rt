@@ -66,11 +66,11 @@ fn put_fields(bytes: &mut Vec<u8>, head: &[u8], from: u64, to: u64) -> Mem<()> {
 // ---- sides
 
 // A record between others, which puts the fields up to one whose name has so many letters.
-fn put_shorter(bytes: &mut Vec<u8>, record: (&[u8], usize)) -> Mem<()>
-    requires { record.1 ≤ 4096 }
+fn put_shorter(bytes: &mut Vec<u8>, shorter: (&[u8], usize)) -> Mem<()>
+    requires { shorter.1 ≤ 4096 }
 {
-    put_fields(bytes, record.0, 1, 949)?;
-    put_field(bytes, 949, record.1)
+    put_fields(bytes, shorter.0, 1, 949)?;
+    put_field(bytes, 949, shorter.1)
 }
 
 // The first opening, and 15 times all fields, with that record behind the first time: 16 + 107 + 15 x 4,213,770 + 1 = 63,206,674 bytes and
