@@ -452,6 +452,7 @@ fn played(alloc: Global, machine: &mut Plain, schema: &Schema, deeds: &'static [
         size: 0,
         request: request(alloc, schema, ask)?,
     };
+    machine.keeps_well();
     match machine.change_of(&entry)? {
         Some(change) => {
             machine.apply(&change)?;

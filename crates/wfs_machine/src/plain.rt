@@ -2,6 +2,7 @@
 
 ghost use Rattle.std.specs.Prelude.{◌≡◌, IfOk, OnErr, replicate};
 ghost use Rattle.wfs_model.specs.Changing.{IsChange};
+ghost use Rattle.wfs_model.specs.Kept.{IsKept};
 ghost use Rattle.wfs_model.specs.OfSchema.{IsOfSchema};
 ghost use Rattle.wfs_model.specs.Read.{read};
 ghost use Rattle.wfs_model.specs.State.{first_machine, opened, durable, clamped, moment_in};
@@ -111,6 +112,11 @@ impl Plain {
     {
         moment.min(LAST_MOMENT).max(self.last)
     }
+
+    /// What outlives the process is kept well at any time, so a change that the machine makes may be applied.
+    pub fn keeps_well(&self)
+        ensures { IsKept self.now.schema (durable self.now.state) }
+    {}
 
     /// Takes a step: carries the entry's request out at the moment at which it is taken up, and answers it (OGC 09-025r2, sections 12
     /// to 15). Where memory runs out, the machine is as before, and so it is where a type would have given more numbers, or the opening
