@@ -242,6 +242,34 @@ fn a_session_ends_with_the_answer_that_closes_it(rt: HostRuntime) {
     );
 }
 
+// A head with a field's name that is none, and whose value goes on for more than the 16,384 bytes that a head may have.
+fn long_bad_head(alloc: Global) -> Mem<String> {
+    let mut text = String::from_str(alloc, "GET /wfs HTTP/1.1\r\na b: ")?;
+    for _ in 0..20_000 {
+        text.push_str("x")?;
+    }
+    Ok(text)
+}
+
+fn is_refused_as_bad<R: Threads + Wait + Sync>(rt: &R, alloc: Global) -> Mem<bool> {
+    let input = long_bad_head(alloc)?;
+    let output = answers_of(alloc, &BAD_HEAD_REFUSED)?;
+    comes_to(
+        rt,
+        alloc,
+        input.as_str(),
+        &[],
+        20_000,
+        (12, Some(0)),
+        output.as_str(),
+    )
+}
+
+#[test]
+fn a_bad_head_is_bad_and_not_too_long(rt: HostRuntime) {
+    assert_eq!(rt; is_refused_as_bad(&rt, rt.alloc()), Ok(true));
+}
+
 // A lock on one of two marks, and one on both of them.
 static LOCKING: [Message; 3] = [
     ("", TWO_MARKS),
