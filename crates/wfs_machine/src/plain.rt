@@ -116,7 +116,9 @@ impl Plain {
     /// What outlives the process is kept well at any time, so a change that the machine makes may be applied.
     pub fn keeps_well(&self)
         ensures { IsKept self.now.schema (durable self.now.state) }
-    {}
+    {
+        let _ = self.listed();
+    }
 
     /// Takes a step: carries the entry's request out at the moment at which it is taken up, and answers it (OGC 09-025r2, sections 12
     /// to 15). Where memory runs out, the machine is as before, and so it is where a type would have given more numbers, or the opening

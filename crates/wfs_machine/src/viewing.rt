@@ -14,7 +14,7 @@ use wfs_ends::{List, Mem};
 
 impl Plain {
     // The features, in default order.
-    fn listed(&self) -> &[Feature]
+    pub(crate) fn listed(&self) -> &[Feature]
         ensures features { result.now ≡ self.now.state.features }
         ensures kept { IsKept self.now.schema (durable self.now.state) }
     {
