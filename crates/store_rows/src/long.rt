@@ -21,10 +21,10 @@ use wfs_store::Store;
 const ALL: &[u8] = b"\x01\0\x40\x4c\x05\x02\0\0\x04\0";
 
 // The same with 949 fields, of which the last one's name has 1,142 letters: 5 + 948 x 4,115 + 1,161 = 3,902,186 (3b8aea). 3,902,191 bytes.
-const LONGER: (&[u8], usize) = (b"\x01\0\x3b\x8a\xea\x02\0\0\x03\xb5", 1_142);
+const LONGER: (&[u8], u32) = (b"\x01\0\x3b\x8a\xea\x02\0\0\x03\xb5", 1_142);
 
 // And with a letter less (3b8ae9): 3,902,190 bytes.
-const LONGEST_KEPT: (&[u8], usize) = (b"\x01\0\x3b\x8a\xe9\x02\0\0\x03\xb5", 1_141);
+const LONGEST_KEPT: (&[u8], u32) = (b"\x01\0\x3b\x8a\xe9\x02\0\0\x03\xb5", 1_141);
 
 // The same with 1,000 fields, as a checkpoint has them: 5 + 1,000 x 4,115 = 4,115,005 (3eca3d). 4,115,010 bytes.
 const THOUSAND: &[u8] = b"\x01\0\x3e\xca\x3d\x02\0\0\x03\xe8";
@@ -37,19 +37,19 @@ const OTHERS: &[u8] = b"\x01\0\x01\x81\xcd\x02\0\0\0\x18";
 const BASE: &[u8] =
     b"\x01\0\0\0\x23\x05\0\0\0\0\0\0\0\x01\0\x03\0\0\0\0\0\0\0\0\0\0\0\0\0\0\x04\0\0\0\0\0\0\0\0\0";
 
-// The longest name.
-const NAME: [u8; 4_096] = [b'n'; 4_096];
+// How many letters the longest name has.
+const LONGEST: u32 = 4_096;
 
 // A part that puts a field with a name of so many letters: 1, the type 1 in 2 bytes, its number in 8, two values in 2; a text, 1 and its
 // length in 4 bytes, and null. 19 bytes and the name, 4,115 with the longest.
-fn put_field(bytes: &mut Vec<u8>, number: u64, letters: usize) -> Mem<()>
-    requires { letters ≤ 4096 }
-{
+fn put_field(bytes: &mut Vec<u8>, number: u64, letters: u32) -> Mem<()> {
     bytes.extend_from_slice(b"\x01\0\x01")?;
     bytes.extend_from_slice(&number.to_be_bytes())?;
     bytes.extend_from_slice(b"\0\x02\x01")?;
-    bytes.extend_from_slice(&(letters as u32).to_be_bytes())?;
-    bytes.extend_from_slice(&NAME[..letters])?;
+    bytes.extend_from_slice(&letters.to_be_bytes())?;
+    for _ in 0..letters {
+        bytes.push(b'n')?;
+    }
     bytes.push(0)?;
     Ok(())
 }
@@ -58,7 +58,7 @@ fn put_field(bytes: &mut Vec<u8>, number: u64, letters: usize) -> Mem<()>
 fn put_fields(bytes: &mut Vec<u8>, head: &[u8], from: u64, to: u64) -> Mem<()> {
     bytes.extend_from_slice(head)?;
     for number in from..to {
-        put_field(bytes, number, NAME.len())?;
+        put_field(bytes, number, LONGEST)?;
     }
     Ok(())
 }
@@ -66,18 +66,14 @@ fn put_fields(bytes: &mut Vec<u8>, head: &[u8], from: u64, to: u64) -> Mem<()> {
 // ---- sides
 
 // A record between others, which puts the fields up to one whose name has so many letters.
-fn put_shorter(bytes: &mut Vec<u8>, shorter: (&[u8], usize)) -> Mem<()>
-    requires { shorter.1 ≤ 4096 }
-{
+fn put_shorter(bytes: &mut Vec<u8>, shorter: (&[u8], u32)) -> Mem<()> {
     put_fields(bytes, shorter.0, 1, 949)?;
     put_field(bytes, 949, shorter.1)
 }
 
 // The first opening, and 15 times all fields, with that record behind the first time: 16 + 107 + 15 x 4,213,770 + 1 = 63,206,674 bytes and
 // the record.
-fn long_side(alloc: Global, shorter: (&[u8], usize)) -> Mem<Vec<u8>>
-    requires { shorter.1 ≤ 4096 }
-{
+fn long_side(alloc: Global, shorter: (&[u8], u32)) -> Mem<Vec<u8>> {
     let mut record = Vec::new(alloc);
     put_fields(&mut record, ALL, 1, 1_025)?;
     let mut bytes = joined(alloc, &[HEAD_1, OPENING_1, &record])?;
@@ -103,9 +99,7 @@ fn disk(alloc: Global, bytes: Vec<u8>) -> Mem<MemDisk> {
     MemDisk::new(alloc, bytes, 5_000, 5_000_000, Vec::new(alloc), None)
 }
 
-fn disks(alloc: Global, shorter: (&[u8], usize)) -> Mem<Pair<MemDisk>>
-    requires { shorter.1 ≤ 4096 }
-{
+fn disks(alloc: Global, shorter: (&[u8], u32)) -> Mem<Pair<MemDisk>> {
     Ok(Pair {
         a: disk(alloc, long_side(alloc, shorter)?)?,
         b: disk(alloc, Vec::new(alloc))?,
