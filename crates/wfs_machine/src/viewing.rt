@@ -13,7 +13,7 @@ use std::alloc::Global;
 use wfs_ends::{List, Mem};
 
 impl Plain {
-    // The features, in default order.
+    /// The features, in default order.
     pub(crate) fn listed(&self) -> &[Feature]
         ensures features { result.now ≡ self.now.state.features }
         ensures kept { IsKept self.now.schema (durable self.now.state) }
