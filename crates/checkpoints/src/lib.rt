@@ -8,6 +8,3 @@ mod records;
 pub use compacting::compact;
 pub use fault::CompactFault;
 pub use records::RecordSource;
-
-#[cfg(test)]
-mod tests;

@@ -4,6 +4,3 @@
 mod moment;
 
 pub use moment::moment_text;
-
-#[cfg(test)]
-mod tests;

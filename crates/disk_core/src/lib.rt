@@ -21,6 +21,3 @@ pub use laws::{
 };
 pub use memory::MemDisk;
 pub use pair::Pair;
-
-#[cfg(test)]
-mod tests;

@@ -9,6 +9,3 @@ mod within;
 
 pub use laws::{distance_is_monotone, distance_is_symmetric, distance_zero_is_intersecting};
 pub use within::{FARTHEST_DISTANCE, within_distance};
-
-#[cfg(test)]
-mod tests;

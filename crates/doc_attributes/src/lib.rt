@@ -7,6 +7,3 @@ mod others;
 
 pub use names::{is_among, is_name, value_at};
 pub use others::first_other;
-
-#[cfg(test)]
-mod tests;

@@ -24,6 +24,3 @@ pub fn round_trip()
 pub fn in_document()
     ensures { (bytes : List ℕ) (e : Element) → Spells bytes e → IsInDocument e }
 {}
-
-#[cfg(test)]
-mod tests;

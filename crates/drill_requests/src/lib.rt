@@ -9,6 +9,3 @@ mod round;
 pub use drawing::{moved, round_at};
 pub use requests::requests_of;
 pub use round::Round;
-
-#[cfg(test)]
-mod tests;

@@ -13,6 +13,3 @@ mod types;
 pub use fault::SchemaFault;
 pub use file::read_schema;
 pub use sign::signature;
-
-#[cfg(test)]
-mod tests;

@@ -17,6 +17,3 @@ pub use ids::{read_number, read_rid, without_prefix};
 pub use read::{read_as, read_value};
 pub use schema::{FeatureType, Property, Schema, ValueKind};
 pub use value::{Value, compare};
-
-#[cfg(test)]
-mod tests;

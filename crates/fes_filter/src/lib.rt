@@ -35,6 +35,3 @@ pub use steps::Steps;
 pub use truths::truth;
 pub use values::property_of;
 pub use view::FeatureView;
-
-#[cfg(test)]
-mod tests;

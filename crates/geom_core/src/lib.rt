@@ -22,6 +22,3 @@ pub use polygon::Polygon;
 pub use position::{FARTHEST, MOST_POSITIONS, Pos};
 pub use ring::Ring;
 pub use sides::{orient, segments_meet};
-
-#[cfg(test)]
-mod tests;

@@ -20,6 +20,3 @@ pub use numbers::read_position;
 pub use print::{GeometryId, geometry_length, put_geometry};
 pub use read::read_geometry;
 pub use tree::geometry_tree;
-
-#[cfg(test)]
-mod tests;

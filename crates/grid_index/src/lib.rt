@@ -12,6 +12,3 @@ mod search;
 
 pub use grid::Grid;
 pub use laws::{spare_alone, spare_without};
-
-#[cfg(test)]
-mod tests;

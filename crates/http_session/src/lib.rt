@@ -17,6 +17,3 @@ mod watch;
 
 pub use message::{Ending, Message, Next};
 pub use reader::{Reader, one_reading};
-
-#[cfg(test)]
-mod tests;

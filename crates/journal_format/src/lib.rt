@@ -16,6 +16,3 @@ pub use fault::RecordFault;
 pub use laws::{has_one_spelling, reads_back};
 pub use record::{put_record, read_record, record_length};
 pub use recorded::Recorded;
-
-#[cfg(test)]
-mod tests;

@@ -16,6 +16,3 @@ pub use laws::{
     each_body_plays_one_change, what_bodies_come_to_is_kept_well,
 };
 pub use rebuild::Rebuild;
-
-#[cfg(test)]
-mod tests;

@@ -6,6 +6,3 @@ mod size;
 
 pub use asks::{read_asked, split_target};
 pub use size::size_of;
-
-#[cfg(test)]
-mod tests;

@@ -17,10 +17,3 @@ pub use fault::{Place, RecoverFault};
 pub use laws::recovers_as_defined;
 pub use recovering::{look_over, recover};
 pub use replay::{Replay, ReplayFault};
-
-#[cfg(test)]
-mod rows;
-#[cfg(test)]
-mod stops;
-#[cfg(test)]
-mod tests;

@@ -17,6 +17,3 @@ pub use operation::{Operation, operation_of, queried_of};
 pub use paging::{Page, locked_page_of, page_of};
 pub use said::{Given, kind_of, required_of, value_of};
 pub use stored::{dropped_of, is_id_query};
-
-#[cfg(test)]
-mod tests;

@@ -9,6 +9,3 @@ mod schema_document;
 
 pub use capabilities::{put_capabilities, put_capabilities_on};
 pub use schema_document::{put_schema, put_schema_on};
-
-#[cfg(test)]
-mod tests;

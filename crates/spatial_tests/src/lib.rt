@@ -5,6 +5,3 @@ mod segments;
 mod sharing;
 
 pub use sharing::{disjoint, intersects, meets_box};
-
-#[cfg(test)]
-mod tests;

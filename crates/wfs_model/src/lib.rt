@@ -31,6 +31,3 @@ pub use reply::{Made, Refusal, Reply};
 pub use request::{Request, Take};
 pub use stored::StoredQuery;
 pub use terms::{is_format, is_listed, is_version, read_count, refused};
-
-#[cfg(test)]
-mod tests;

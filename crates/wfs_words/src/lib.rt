@@ -10,6 +10,3 @@ mod read;
 
 pub use command::{Command, WordFault};
 pub use read::{directory, read_words};
-
-#[cfg(test)]
-mod tests;

@@ -1,6 +1,0 @@
-use Rattle.std.proofs.Common.{refl}
-use Rattle.feature_journal.proofs.EmptyDisk.{empty_unused}
-use Rattle.checkpoints.proofs.tests.empty_disk.Goals as goal
-
-pub returns : goal.returns
-returns c = empty_unused c.new-2.result _ c.new.ensures.items refl c.new-2.ensures

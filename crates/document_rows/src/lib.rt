@@ -1,0 +1,15 @@
+//! Rows of documents: texts, attributes, elements and moments, each beside what the standards say of it.
+#![tactic(auto)]
+
+#[cfg(test)]
+mod attributes;
+#[cfg(test)]
+mod elements;
+#[cfg(test)]
+mod laws;
+#[cfg(test)]
+mod moments;
+#[cfg(test)]
+mod names;
+#[cfg(test)]
+mod trees;

@@ -1,0 +1,9 @@
+//! Rows of what filters choose and types allow, of the model's words, copies and limits, and of which features lie near a box.
+#![tactic(auto)]
+
+#[cfg(test)]
+mod filters;
+#[cfg(test)]
+mod grid;
+#[cfg(test)]
+mod model;

@@ -1,0 +1,201 @@
+//! Links of pages, values that stand in requests, copies and limits, with ample memory.
+
+use feature_values::{Feature, Rid, Value};
+use fes_filter::{By, Expr, Filter, Query, SortKey};
+use std::alloc::Global;
+use std::test::Fail;
+use wfs_ends::{List, Mem, Text};
+use wfs_model::{
+    AskFault, Change, Limits, Part, Refusal, StoredQuery, is_format, is_listed, is_version,
+    page_link, read_count, refused,
+};
+
+// Numbers of 32 bits, as they may be written.
+static COUNTS: [(&str, Option<u32>); 7] = [
+    ("0", Some(0)),
+    ("4294967295", Some(4_294_967_295)),
+    ("007", Some(7)),
+    ("4294967296", None),
+    ("+1", None),
+    (" 1", None),
+    ("", None),
+];
+
+fn first_miscounted() -> Option<&'static str> {
+    for (text, count) in &COUNTS {
+        if read_count(text) != *count {
+            return Some(*text);
+        }
+    }
+    None
+}
+
+#[test]
+fn counts_are_digits_of_32_bits(rt: HostRuntime) -> Result<(), Fail> {
+    assert_eq!(rt; first_miscounted(), None);
+    Ok(())
+}
+
+// A text, whether it is a version of the service, and whether it names GML 3.2.
+static WORDS: [(&str, bool, bool); 7] = [
+    ("2.0.0", true, false),
+    ("2.0.2", true, false),
+    ("2.0.1", false, false),
+    ("application/gml+xml; version=3.2", false, true),
+    ("text/xml; subtype=gml/3.2", false, true),
+    ("text/xml; subtype=gml/3.2.1", false, true),
+    ("text/xml", false, false),
+];
+
+fn first_misread() -> Option<&'static str> {
+    for (text, version, format) in &WORDS {
+        if is_version(text) != *version || is_format(text) != *format {
+            return Some(*text);
+        }
+    }
+    None
+}
+
+#[test]
+fn versions_and_formats_are_known(rt: HostRuntime) -> Result<(), Fail> {
+    assert_eq!(rt; first_misread(), None);
+    Ok(())
+}
+
+fn names(alloc: Global) -> Mem<List<Text>> {
+    let mut all = Vec::new(alloc);
+    all.push(Text::of(alloc, "urn:ogc:def:crs:EPSG::25832")?)?;
+    all.push(Text::of(alloc, "l")?)?;
+    Ok(List::of(all))
+}
+
+fn are_found(names: &List<Text>) -> bool {
+    is_listed(names.items(), "l") && !is_listed(names.items(), "L")
+}
+
+#[test]
+fn names_are_found_as_they_are(rt: HostRuntime) -> Result<(), Fail> {
+    let names = names(rt.alloc())?;
+    assert!(rt; are_found(&names));
+    Ok(())
+}
+
+#[test]
+fn a_link_has_start_and_count(rt: HostRuntime) -> Result<(), Fail> {
+    let link = Text::of(rt.alloc(), "http://h/wfs?a=b")?;
+    assert_eq!(rt;
+        page_link(rt.alloc(), &link, 0, 2)?.as_str(),
+        "http://h/wfs?a=b&startIndex=0&count=2"
+    );
+    Ok(())
+}
+
+fn is_refused_so(fault: &AskFault) -> bool {
+    match fault {
+        AskFault::Refused(Refusal { row, locator }) => *row == 10 && locator.as_str() == "id",
+        AskFault::OutOfMemory => false,
+    }
+}
+
+#[test]
+fn a_refusal_has_its_row_and_locator(rt: HostRuntime) -> Result<(), Fail> {
+    let fault = refused(rt.alloc(), 10, "id");
+    assert!(rt; is_refused_so(&fault));
+    Ok(())
+}
+
+fn queries(alloc: Global) -> Mem<List<Query>> {
+    let mut sort = Vec::new(alloc);
+    sort.push(SortKey {
+        property: 1,
+        descending: true,
+    })?;
+    let mut all = Vec::new(alloc);
+    all.push(Query {
+        kind: Some(0),
+        filter: Some(Filter::Compare {
+            by: By::Equal,
+            left: Expr::Property(0),
+            right: Expr::Parameter(1),
+            fold: false,
+        }),
+        sort: List::of(sort),
+    })?;
+    Ok(List::of(all))
+}
+
+fn stored(alloc: Global) -> Mem<StoredQuery> {
+    Ok(StoredQuery {
+        id: Text::of(alloc, "urn:x:by")?,
+        title: Text::of(alloc, "By label")?,
+        parameters: names(alloc)?,
+        queries: queries(alloc)?,
+        text: Text::of(alloc, "<wfs:Query/>")?,
+    })
+}
+
+fn all_stored(alloc: Global) -> Mem<List<StoredQuery>> {
+    let mut all = Vec::new(alloc);
+    all.push(stored(alloc)?)?;
+    Ok(List::of(all))
+}
+
+fn parts(alloc: Global) -> Mem<List<Part>> {
+    let id = Rid { kind: 0, number: 7 };
+    let mut values = Vec::new(alloc);
+    values.push(Value::Words(Text::of(alloc, "A")?))?;
+    values.push(Value::Null)?;
+    let mut all = Vec::new(alloc);
+    all.push(Part::Put(Feature::of(alloc, id, values)?))?;
+    all.push(Part::Remove(id))?;
+    Ok(List::of(all))
+}
+
+fn counters(alloc: Global) -> Mem<List<u64>> {
+    let mut all = Vec::new(alloc);
+    all.push(3)?;
+    all.push(0)?;
+    Ok(List::of(all))
+}
+
+// A change of each kind.
+fn changes(alloc: Global) -> Mem<List<Change>> {
+    let mut all = Vec::new(alloc);
+    all.push(Change::Opening(2))?;
+    all.push(Change::Rows(parts(alloc)?))?;
+    all.push(Change::Created(all_stored(alloc)?))?;
+    all.push(Change::Dropped(Text::of(alloc, "urn:x:by")?))?;
+    all.push(Change::Base {
+        opening: 1,
+        counters: counters(alloc)?,
+    })?;
+    Ok(List::of(all))
+}
+
+// The first change whose copy is another.
+fn first_miscopied(alloc: Global, changes: &[Change]) -> Mem<Option<usize>> {
+    for i in 0..changes.len() {
+        let copied = changes[i].copy(alloc)?;
+        if copied != changes[i] {
+            return Ok(Some(i));
+        }
+    }
+    Ok(None)
+}
+
+fn first_wrong_copy(alloc: Global) -> Mem<Option<usize>> {
+    let changes = changes(alloc)?;
+    first_miscopied(alloc, changes.items())
+}
+
+#[test]
+fn copies_are_equal(rt: HostRuntime) -> Result<(), Fail> {
+    assert_eq!(rt; first_wrong_copy(rt.alloc()), Ok(None));
+    Ok(())
+}
+
+#[test]
+fn a_side_has_at_most_256_mebibytes(rt: HostRuntime) -> Result<(), Fail> {
+    assert_eq!(rt; Limits::stated().side, 256 * 1024 * 1024);
+    Ok(())
+}

@@ -1,0 +1,122 @@
+//! The limits, byte by byte and in large pieces: 16,384 bytes of head, 64 fields, 4,194,304 bytes of content, 8,388,608 of
+//! chunks as sent.
+
+use super::read_in;
+use std::alloc::Global;
+use wfs_ends::Mem;
+
+/// A text of one part, again and again, between two others.
+fn repeated(alloc: Global, front: &str, part: &str, count: usize, back: &str) -> Mem<String> {
+    let mut text = String::from_str(alloc, front)?;
+    for _ in 0..count {
+        text.push_str(part)?;
+    }
+    text.push_str(back)?;
+    Ok(text)
+}
+
+/// A front, what is repeated, how often, a back, and of what is read of it the first word and how many bytes it has.
+static SIZES: [(&str, &str, usize, &str, &str, usize); 19] = [
+    ("GET / HTTP/1.1\r\nA: ", "a", 16361, "\r\n\r\n", "GET", 11),
+    (
+        "GET / HTTP/1.1\r\nA: ",
+        "a",
+        16362,
+        "\r\n\r\n",
+        "TooLarge",
+        8,
+    ),
+    ("GET / HTTP/1.1\r\nA: ", "a", 16362, "\r\n", "Cut", 3),
+    ("GET /", "a", 16366, " HTTP/1.1\r\n\r\n", "GET", 16377),
+    ("GET /", "a", 16367, " HTTP/1.1\r\n\r\n", "TooLarge", 8),
+    ("GET /", "\x01", 16379, "", "TooLarge", 8),
+    ("G(T /", "a", 16379, "", "BadHead", 7),
+    ("", "\r\n", 8192, "", "TooLarge", 8),
+    ("GET / HTTP/1.1\r\n", "A: b\r\n", 64, "\r\n", "GET", 11),
+    ("GET / HTTP/1.1\r\n", "A: b\r\n", 65, "\r\n", "BadHead", 7),
+    ("POST / HTTP/1.1\r\n", "A: b\r\n", 64, "\r\n", "NoLength", 8),
+    ("POST / HTTP/1.1\r\n", "A: b\r\n", 65, "\r\n", "BadHead", 7),
+    (
+        "POST / HTTP/1.1\r\nContent-Length: 4194304\r\n\r\n",
+        "x",
+        4194304,
+        "",
+        "POST",
+        4194316,
+    ),
+    (
+        "POST / HTTP/1.1\r\nContent-Length: 4194304\r\n\r\n",
+        "x",
+        4194303,
+        "",
+        "Cut",
+        3,
+    ),
+    (
+        "POST / HTTP/1.1\r\nTransfer-Encoding: chunked\r\n\r\n400000\r\n",
+        "x",
+        4194304,
+        "\r\n0\r\n\r\n",
+        "POST",
+        4194316,
+    ),
+    (
+        "POST / HTTP/1.1\r\nTransfer-Encoding: chunked\r\n\r\n400001\r\n",
+        "x",
+        4194304,
+        "",
+        "Cut",
+        3,
+    ),
+    (
+        "POST / HTTP/1.1\r\nTransfer-Encoding: chunked\r\n\r\n400001\r\n",
+        "x",
+        4194305,
+        "",
+        "TooLarge",
+        8,
+    ),
+    (
+        "POST / HTTP/1.1\r\nTransfer-Encoding: chunked\r\n\r\n",
+        "1\r\nx\r\n",
+        1398100,
+        "0;aa\r\n\r\n",
+        "POST",
+        1398112,
+    ),
+    (
+        "POST / HTTP/1.1\r\nTransfer-Encoding: chunked\r\n\r\n",
+        "1\r\nx\r\n",
+        1398100,
+        "0;aaa\r\n\r\n",
+        "TooLarge",
+        8,
+    ),
+];
+
+fn is_read_as(text: &str, word: &str, length: usize) -> bool {
+    text.starts_with(word) && text.len() == length
+}
+
+/// Reads each of these byte by byte, and in large pieces. It answers the first that is read otherwise than the table
+/// says.
+fn first_mismeasured<'a>(
+    alloc: Global,
+    sizes: &'a [(&'a str, &'a str, usize, &'a str, &'a str, usize)],
+) -> Mem<Option<&'a str>> {
+    for (front, part, count, back, word, length) in sizes {
+        let input = repeated(alloc, front, part, *count, back)?;
+        let slow = read_in(alloc, input.as_str(), 1, 1)?;
+        let quick = read_in(alloc, input.as_str(), 16384, 16384)?;
+        if !is_read_as(slow.as_str(), word, *length) || !is_read_as(quick.as_str(), word, *length) {
+            return Ok(Some(front));
+        }
+    }
+    Ok(None)
+}
+
+#[test]
+fn limits_are_exact_byte_by_byte(rt: HostRuntime) {
+    let misread = first_mismeasured(rt.alloc(), &SIZES).expect(&rt, "memory");
+    assert_eq!(rt; misread, None);
+}

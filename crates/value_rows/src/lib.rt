@@ -1,0 +1,15 @@
+//! Rows of shapes, values and schema files: what is said of them, worked out by hand or by exact fractions.
+#![tactic(auto)]
+
+#[cfg(test)]
+mod distances;
+#[cfg(test)]
+mod geometry;
+#[cfg(test)]
+mod places;
+#[cfg(test)]
+mod relations;
+#[cfg(test)]
+mod schema;
+#[cfg(test)]
+mod values;
