@@ -6,6 +6,8 @@ mod disks;
 #[cfg(test)]
 mod faults;
 #[cfg(test)]
+mod held;
+#[cfg(test)]
 mod long;
 #[cfg(test)]
 mod pieces;
