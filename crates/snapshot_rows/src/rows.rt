@@ -18,6 +18,7 @@ use wfs_ends::{Mem, OutOfMemory};
 use wfs_model::{Change, Reply, Request};
 
 mod marks;
+mod refused;
 
 /// What a read gave: how many marks and at which front, or the front that is behind.
 #[derive(Clone, Copy, Debug, PartialEq, Eq)]
@@ -37,7 +38,7 @@ fn look(alloc: Global, viewer: &mut Viewer, request: &Request) -> Mem<Found>
     })
 }
 
-// Plays a change, where it may be played, and publishes it.
+// Plays a change, where it may be played, and publishes it: whether that was done, and not refused for want of memory.
 fn play<R: Wait>(
     rt: &R,
     alloc: Global,
@@ -45,7 +46,7 @@ fn play<R: Wait>(
     features: &mut Features,
     front: u64,
     change: Change,
-) -> Mem<()>
+) -> Mem<bool>
     requires next { front ≡ length (given_of publisher.old) }
     requires schema { features.old.schema ≡ schema_in (given_of publisher.old) }
     requires queries { AreQueriesOf features.old.schema change }
@@ -54,7 +55,8 @@ fn play<R: Wait>(
     ensures given { OnOk result (given_of publisher.new ≡ given_of publisher.old
         ++ pair front (content_of features.new) ∷ []) }
     ensures schema { OnOk result (features.new.schema ≡ features.old.schema) }
-    ensures alike { OnOk result (content_of features.new ≡ (shown_of publisher.new).content) }
+    ensures alike { OnOk result (IsAbreast publisher.new → content_of features.new
+        ≡ (shown_of publisher.new).content) }
 {
     if !features.accepts(alloc, &change)? {
         return Err(OutOfMemory);
@@ -62,7 +64,11 @@ fn play<R: Wait>(
     let same = change.copy(alloc)?;
     features.reserve(&change)?;
     features.apply(same);
-    publisher.publish(rt, front, Some(&change), features)
+    Ok(
+        publisher
+            .publish(rt, front, Some(&change), features)
+            .is_ok(),
+    )
 }
 
 // What a viewer finds before a mark comes, after it, after another, and once it was told a front that is not there yet.
@@ -81,9 +87,13 @@ fn told<R: Wait>(
     requires read { IsChange request.now → ⊥ }
 {
     let before = look(alloc, viewer, request)?;
-    play(rt, alloc, publisher, features, 1, insert(alloc, 1)?)?;
+    if !play(rt, alloc, publisher, features, 1, insert(alloc, 1)?)? {
+        return Err(OutOfMemory);
+    }
     let after = look(alloc, viewer, request)?;
-    play(rt, alloc, publisher, features, 2, insert(alloc, 2)?)?;
+    if !play(rt, alloc, publisher, features, 2, insert(alloc, 2)?)? {
+        return Err(OutOfMemory);
+    }
     let both = look(alloc, viewer, request)?;
     viewer.tell(3);
     let behind = look(alloc, viewer, request)?;
