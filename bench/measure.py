@@ -65,6 +65,15 @@ def least_time(command: list, data: bytes, status: int, runs: int = RUNS) -> flo
     return least_times(command, [data], status, runs)[0]
 
 
+def copied() -> str:
+    """A copy of the crates, without what was built."""
+    copy = tempfile.mkdtemp(prefix="crates-")
+    shutil.copytree(os.path.join(ROOT, "crates"), os.path.join(copy, "crates"), ignore=shutil.ignore_patterns("out"))
+    for name in ("crates.txt", "HANDLES"):
+        shutil.copy(os.path.join(ROOT, name), copy)
+    return copy
+
+
 @contextlib.contextmanager
 def driver(name: str, crates: list):
     """The program of `NAME.rt.txt` over these crates, which is proved and built first, with the answers in `NAME.proofs` (`.antt.txt`) where it has some. It stands below
