@@ -20,6 +20,7 @@ use wfs_store::Store;
 
 mod beside;
 mod faults;
+mod turns;
 
 const SCHEMA: &str =
     "title = \"Marks\"\naddress = \"http://localhost:8080/wfs\"\nnamespace = \"http://example.org/marks\"\nprefix = \"m\"\nsrs = [\"urn:ogc:def:crs:EPSG::25832\", \"EPSG:25832\"]\n[[type]]\nname = \"Mark\"\nproperty = [ {name=\"label\", kind=\"text\", required=true, max=40} ]\n";
