@@ -11,7 +11,7 @@ use Rattle.recovery.specs.Outcome.Outcome.{refused, no_side, found}
 use Rattle.wfs_ends.specs.Ends.{last_count}
 use Rattle.wfs_model.specs.State.{Durable}
 use Rattle.durable_journal.specs.Current.{Current, current_in}
-use Rattle.durable_journal.specs.Opened.{checkpoint_bodies, generation_in, length_in, longest_kept}
+use Rattle.durable_journal.specs.Opened.{checkpoint_bodies, length_in, longest_kept}
 use Rattle.durable_journal.specs.OpenedSide.{HasRoom, IsBegunBy, IsBegunOn, IsOpenedSide, current_found, opening_in}
 use Rattle.durable_journal.specs.OpenedSide.HasRoom.{stays, turns}
 use Rattle.durable_journal.specs.OpenedSide.IsBegunOn.{appended, shortened}

@@ -1,5 +1,5 @@
 -- No request that comes as a query makes a stored one.
-use Rattle.std.proofs.Common.{◌≡◌, ℕ, List, [], Option, Some, None, Result, Ok, Err, refl, inl, inr}
+use Rattle.std.proofs.Common.{ℕ, List, [], Option, Some, None, Result, Ok, Err, refl}
 use Rattle.std.specs.Prelude.{codes, All, IfOk}
 use Rattle.wfs_ends.specs.Read.{GivesBut, each, unless}
 use Rattle.feature_values.specs.declared.schema.Schema.{Schema}

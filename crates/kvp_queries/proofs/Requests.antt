@@ -1,12 +1,12 @@
 -- Each request that a query asks is of the schema.
-use Rattle.std.proofs.Common.{◌≡◌, ℕ, ◌<◌, ◌≤◌, Bool, true, false, not, ◌&&◌, List, [], ◌∷◌, ◌++◌, length, map, filter, Option, Some, None, Result, Ok, Err, refl, sym, ap, subst, ◌∙◌, ◌⊎◌, inl, inr, arith}
-use Rattle.std.specs.Prelude.{codes, All, IfOk, nat_lt, unwrap_or}
+use Rattle.std.proofs.Common.{◌≡◌, ℕ, ◌<◌, ◌≤◌, true, false, List, [], ◌∷◌, length, map, filter, Option, Some, None, Result, Ok, Err, sym, subst, ◌⊎◌, inl, inr, arith}
+use Rattle.std.specs.Prelude.{codes, All, IfOk}
 use Rattle.std.specs.List.{flat_map}
 use Rattle.std.specs.Option.{option_to_list}
 use Rattle.std.proofs.lemmas.Bool.{cases_Bool}
 use Rattle.std.proofs.lemmas.List.{append-nil}
 use Rattle.std.proofs.lemmas.List.Elements.{All-nil, All-cons}
-use Rattle.wfs_ends.specs.Read.{◌>>=◌, GivesBut, each, unless}
+use Rattle.wfs_ends.specs.Read.{GivesBut, each, unless}
 use Rattle.wfs_ends.proofs.Turns.{bind_ok, ok_is}
 use Rattle.feature_values.specs.declared.schema.Schema.{Schema}
 use Rattle.fes_filter.specs.declared.query.Query.{Query}
@@ -21,15 +21,15 @@ use Rattle.wfs_model.specs.declared.request.Take.{Take}
 use Rattle.wfs_model.specs.declared.request.Request.{Request}
 use Rattle.wfs_model.specs.declared.request.Request.TheVariants.{Capabilities, DescribeTypes, GetFeatures, GetValues, GetLocked, Lock, Renew, ListStored, DescribeStored, DropStored}
 use Rattle.wfs_model.specs.Stored.{is_id_query}
-use Rattle.wfs_model.specs.OfSchema.{IsType, IsQueryOf, IsActionOf, IsStoredOf, IsOfSchema, AreValuesOf, query_in, names_given}
-use Rattle.request_terms.specs.Said.{Said, Ask, required_of, kind_of}
+use Rattle.wfs_model.specs.OfSchema.{IsType, IsQueryOf, IsActionOf, IsStoredOf, IsOfSchema, query_in, names_given}
+use Rattle.request_terms.specs.Said.{Said, Ask, required_of}
 use Rattle.request_terms.specs.Base.{format_of, negotiated}
 use Rattle.request_terms.specs.Paging.{page_of, locked_page_of, presented}
 use Rattle.request_terms.specs.Locking.{take_of, lock_of, expiry_of, period_of}
 use Rattle.request_terms.specs.Stored.{dropped_of}
 use Rattle.request_terms.specs.declared.operation.Operation.{Operation}
 use Rattle.request_terms.specs.declared.operation.Operation.TheVariants as Op
-use Rattle.kvp_queries.specs.Pairs.{Pair, pairs_of, listed_of, said_by, counts, lists, is_parameter, parameters_of, link_of}
+use Rattle.kvp_queries.specs.Pairs.{Pair, pairs_of, listed_of, said_by, counts, is_parameter, parameters_of, link_of}
 use Rattle.kvp_queries.specs.Lists.{items_if}
 use Rattle.kvp_queries.specs.Selection.{type_names_of}
 use Rattle.kvp_queries.specs.Asking.{query_of, stored_id, enough_of, asked_with, asked_by, property_of, valued}

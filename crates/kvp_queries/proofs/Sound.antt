@@ -1,13 +1,11 @@
 -- What a query asks is of the schema.
-use Rattle.std.proofs.Common.{◌≡◌, ℕ, zero, suc, ◌<◌, ◌≤◌, Bool, true, false, ◌&&◌, ◌⊎◌, inl, inr, List, [], ◌∷◌, ◌++◌, length, map, filter, Option, Some, None, Result, Ok, Err, refl, sym, ap, subst, ◌∙◌, arith}
-use Rattle.std.specs.Prelude.{codes, ◌==◌, option_map, option_and_then, All, IfSome, IfOk, slice_get, nat_lt, unwrap_or}
+use Rattle.std.proofs.Common.{◌≡◌, ℕ, zero, suc, ◌<◌, ◌≤◌, Bool, true, false, ◌⊎◌, inl, inr, List, [], ◌∷◌, ◌++◌, map, filter, Option, Some, None, Result, Ok, Err, refl, sym, ap, subst, ◌∙◌, arith}
+use Rattle.std.specs.Prelude.{codes, ◌==◌, option_map, option_and_then, All, IfSome, slice_get, unwrap_or}
 use Rattle.std.specs.List.{flat_map, list_any, before_first, after_first}
 use Rattle.std.specs.Option.{option_to_list}
-use Rattle.std.proofs.lemmas.Bool.{cases_Bool}
-use Rattle.std.proofs.lemmas.List.{append-nil}
 use Rattle.std.proofs.lemmas.List.Concat.{flat_map-cons}
 use Rattle.std.proofs.lemmas.List.Elements.{All-nil, All-cons, All-push, All-append, All-head}
-use Rattle.wfs_ends.specs.Read.{◌>>=◌, GivesBut, each, unless}
+use Rattle.wfs_ends.specs.Read.{◌>>=◌, each, unless}
 use Rattle.wfs_ends.proofs.Turns.{bind_ok, chosen, ok_is}
 use Rattle.doc_read.specs.Document.{document}
 use Rattle.geom_core.specs.Plane.{Bounds}
@@ -31,7 +29,7 @@ use Rattle.fes_docs.proofs.Judged.{filters_are_allowed}
 use Rattle.fes_docs.proofs.Named.{and_then_some, map_some, some_is}
 use Rattle.wfs_model.specs.Terms.{refused, count_of}
 use Rattle.wfs_model.specs.declared.fault.AskFault.{AskFault}
-use Rattle.wfs_model.specs.OfSchema.{IsType, IsFilterOf, IsSortKeyOf, IsQueryOf, property_at, known_id, id_place, ids_step, places_step, places_in}
+use Rattle.wfs_model.specs.OfSchema.{IsType, IsFilterOf, IsQueryOf, property_at, known_id, id_place, ids_step, places_step, places_in}
 use Rattle.wfs_model.specs.OfSchema.{ids_in as features_in}
 use Rattle.request_terms.specs.Said.{Said, Ask, or_fault, read_if, kind_of}
 use Rattle.request_terms.specs.Base.{srs_of}
@@ -44,7 +42,7 @@ use Rattle.kvp_queries.specs.Pairs.{or_else}
 use Rattle.kvp_queries.specs.Lists.{is_comma, items_in}
 use Rattle.kvp_queries.specs.Selection.{type_names_of, one_type, type_if, type_of, known_or_nobody, id_of, ids_in, ids_filter, or_no_document, filter_in, filter_if, document_filter, box_in, box_if, box_filter, alone, only_one}
 use Rattle.kvp_queries.specs.Selection.{chosen as chosen_by}
-use Rattle.kvp_queries.specs.Sorting.{name_and_word, is_descending, key_of, next_key, keys_in, keys_if, keys_of, not_sorted}
+use Rattle.kvp_queries.specs.Sorting.{name_and_word, is_descending, key_of, next_key, keys_in, keys_if, keys_of}
 use Rattle.kvp_queries.specs.Asking.{property_name_of, query_of, property_of}
 use Rattle.kvp_queries.specs.Request.{next_type}
 

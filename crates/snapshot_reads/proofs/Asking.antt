@@ -1,14 +1,13 @@
 -- What the stored queries of a change ask, where what it leaves is kept well.
-use Rattle.std.proofs.Common.{◌≡◌, ℕ, List, [], ◌∷◌, ◌++◌, All, Some, subst, sym, ◌∙◌, ap}
+use Rattle.std.proofs.Common.{◌≡◌, List, [], ◌∷◌, ◌++◌, All, Some, sym, ◌∙◌, ap}
 use Rattle.std.proofs.lemmas.List.Elements.{All-tail}
 use Rattle.feature_values.specs.declared.schema.Schema.{Schema}
 use Rattle.feature_versions.specs.Holding.{Holding}
 use Rattle.wfs_model.specs.declared.change.Change.{Change}
 use Rattle.wfs_model.specs.declared.change.Change.TheVariants.{Opening, Rows, Created, Dropped, Base}
-use Rattle.wfs_model.specs.declared.stored.StoredQuery.{StoredQuery}
 use Rattle.wfs_model.specs.Kept.{IsKept}
 use Rattle.wfs_model.specs.OfSchema.{IsStoredOf}
-use Rattle.wfs_model.specs.Playable.{AreQueriesOf, IsAskedOf}
+use Rattle.wfs_model.specs.Playable.{AreQueriesOf}
 use Rattle.wfs_model.specs.Played.{played_one}
 use Rattle.wfs_model.specs.State.{Durable}
 use Rattle.snapshot_reads.specs.Content.{Content, content_of}

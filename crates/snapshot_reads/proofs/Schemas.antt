@@ -1,10 +1,9 @@
 -- The schema of a history is that of its first pair.
-use Rattle.std.proofs.Common.{◌≡◌, ◌<◌, ℕ, true, List, [], ◌∷◌, ◌++◌, length, Some, slice_get, All, refl, ap, sym, subst, arith, ◌∙◌}
+use Rattle.std.proofs.Common.{◌≡◌, ◌<◌, true, List, [], ◌∷◌, ◌++◌, length, All, refl, ap, sym, subst, arith, ◌∙◌}
 use Rattle.std.proofs.lemmas.List.Elements.{All-append, All-cons, All-get_or, All-nil}
 use Rattle.std.proofs.lemmas.Option.{get_or_from_slice_get, slice_get_within}
 use mathlib.Core.List.{IsPrefix}
 use Rattle.feature_values.specs.declared.schema.Schema.{Schema}
-use Rattle.logbook.specs.Pages.{Cell}
 use Rattle.snapshot_reads.specs.declared.book.Pair.{Pair}
 use Rattle.snapshot_reads.specs.Pairs.{AreOfOne, IsHistory, IsPairOf, Stands, schema_in}
 

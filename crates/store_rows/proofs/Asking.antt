@@ -1,5 +1,5 @@
 -- What the tests need: a query for all features of the first type, and a request that counts what is asked for.
-use Rattle.std.proofs.Common.{◌≡◌, ℕ, ◌<◌, ◌≤◌, List, [], length, None, Some, arith}
+use Rattle.std.proofs.Common.{◌≤◌, List, [], length, None, Some, arith}
 use Rattle.std.specs.Prelude.{All}
 use Rattle.std.proofs.lemmas.List.Elements.{All-nil}
 use Rattle.feature_schema.specs.Rules.{KeepsRules}

@@ -1,8 +1,8 @@
 -- The stored queries that are made keep texts that read back.
-use Rattle.std.proofs.Common.{◌≡◌, ℕ, ◌≤◌, ◌++◌, pred, not, List, [], ◌∷◌, length, Option, Some, None, Ok, Err, refl, sym, subst, arith}
+use Rattle.std.proofs.Common.{◌≡◌, ℕ, ◌≤◌, ◌++◌, pred, not, List, [], ◌∷◌, length, Option, Some, None, Ok, Err, refl, subst, arith}
 use Rattle.std.specs.Prelude.{codes, ◌==◌, All, IfOk, unwrap_or}
 use Rattle.std.proofs.lemmas.List.Elements.{All-nil, All-push}
-use Rattle.wfs_ends.specs.Read.{◌>>=◌, GivesBut, each, unless}
+use Rattle.wfs_ends.specs.Read.{GivesBut, each, unless}
 use Rattle.wfs_ends.proofs.Turns.{bind_ok, ok_is}
 use Rattle.doc_tree.specs.declared.tree.Element.{Element}
 use Rattle.doc_laws.specs.InDocument.{IsInDocument}
@@ -19,7 +19,7 @@ use Rattle.wfs_model.specs.declared.stored.StoredQuery.{StoredQuery}
 use Rattle.wfs_model.specs.OfSchema.{stored_in}
 use Rattle.request_terms.specs.Said.{Ask, required_of}
 use Rattle.request_terms.specs.Base.{srs_of, format_of, negotiated}
-use Rattle.request_terms.specs.Paging.{page_of, locked_page_of, presented}
+use Rattle.request_terms.specs.Paging.{page_of, locked_page_of}
 use Rattle.request_terms.specs.Locking.{take_of, lock_of, release_of, expiry_of, period_of}
 use Rattle.request_terms.specs.Stored.{dropped_of}
 use Rattle.request_terms.specs.Elements.{said_at, misplaced, no_children}

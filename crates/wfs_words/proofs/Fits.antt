@@ -1,5 +1,5 @@
 -- The test in front of clap.
-use Rattle.std.proofs.Common.{◌≡◌, ℕ, ◌<◌, ◌-◌, suc, true, false, refl, sym, ap, ◌∙◌, List, [], ◌∷◌, map, length, take, drop, take_all, Option, Some, None, String, Global, codes, string_bytes, arith}
+use Rattle.std.proofs.Common.{◌≡◌, ◌<◌, ◌-◌, suc, true, false, refl, sym, ap, ◌∙◌, List, [], ◌∷◌, map, length, take, drop, take_all, Option, Some, None, String, Global, codes, string_bytes, arith}
 use Rattle.std.specs.List.{list_all}
 use Rattle.std.proofs.lemmas.Slice.Eq.{bytes_eq-Decides}
 use Rattle.wfs_words.specs.Words.{Text, Texts, Asked, is_fit, is_serve, ◌>>=◌, first_word, served, serve_of, texts_of, command_of, asked_of}

@@ -1,5 +1,5 @@
 -- What is known of the command of clap without its words.
-use Rattle.std.proofs.Common.{◌≡◌, ℕ, true, refl, List, [], ◌∷◌, codes, Some, None, Option, ◌⊎◌, inl, inr, false, ◌==◌, length, arith}
+use Rattle.std.proofs.Common.{◌≡◌, true, refl, List, [], ◌∷◌, codes, Some, None, Option, ◌⊎◌, inl, inr, false, ◌==◌, length, arith}
 use Rattle.std.proofs.lemmas.Bool.Decides.{nat_tests}
 use Rattle.clap.specs.declared.parser.matches.Found.{Found}
 use Rattle.clap.specs.declared.error.kind.ErrorKind.{ErrorKind}

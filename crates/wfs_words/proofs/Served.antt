@@ -1,19 +1,19 @@
 -- What clap makes of all the words of serve is what the lists make of them.
-use Rattle.std.proofs.Common.{◌≡◌, ℕ, true, false, not, ◌&&◌, ◌||◌, refl, sym, ap, ap₂, subst, ◌∙◌, List, [], ◌∷◌, ◌++◌, map, length, codes, Option, Some, None, option_map, Bool, ◌==◌, cond, inl, inr, Result, Ok, Err}
+use Rattle.std.proofs.Common.{◌≡◌, true, false, not, ◌&&◌, ◌||◌, refl, sym, ap, ◌∙◌, List, [], ◌∷◌, map, length, codes, Option, Some, None, option_map, Bool, ◌==◌, cond, inl, inr}
 use Rattle.std.proofs.lemmas.Bool.{cases_Bool, false≢true}
-use Rattle.std.specs.Prelude.{slice_get, option_and_then, find, unwrap_or, is_some}
-use Rattle.std.specs.List.{list_any, fold}
+use Rattle.std.specs.Prelude.{is_some}
+use Rattle.std.specs.List.{fold}
 use Rattle.std.specs.Str.{bytes_eq}
-use Rattle.clap.specs.Words.{Text, Row, Rule, Kinds, built, fault_of, matches_of, first_of}
-use Rattle.clap.specs.Walk.{Held, Walk, walked, settled_rows, finished, with_default, has_row, nothing_held, is_empty}
+use Rattle.clap.specs.Words.{Text, Row, Kinds, built, fault_of, matches_of, first_of}
+use Rattle.clap.specs.Walk.{Walk, settled_rows, finished, with_default, has_row, nothing_held}
 use Rattle.clap.specs.Simple.{entered}
 use Rattle.clap.specs.Takes.{is_given}
 use Rattle.clap.specs.declared.error.kind.ErrorKind.TheVariants as kind
-use Rattle.std.proofs.Common.{arith, suc, ◌<◌, ◌-◌, take, drop, take_all, String, Global, string_bytes}
+use Rattle.std.proofs.Common.{arith, ◌-◌}
 use Rattle.std.proofs.lemmas.Bool.{and_parts}
 use Rattle.std.proofs.lemmas.Slice.Eq.{bytes_eq-Decides}
 use Rattle.std.specs.List.{list_all}
-use Rattle.clap.specs.Lexer.{long_of, short_of}
+use Rattle.clap.specs.Lexer.{long_of}
 use Rattle.std.proofs.lemmas.Bool.Decides.{nat_tests}
 use Rattle.clap.specs.Kinds.{or_else}
 use Rattle.clap.specs.Faults.{walk_fault, settle_fault, default_fault, defaults_fault, check_fault, level_fault, entered_fault}
@@ -22,7 +22,7 @@ use Rattle.wfs_words.specs.declared.options.Name.{Name}
 use Rattle.wfs_words.specs.declared.options.Name.TheVariants.{Listen as listen, Workers as workers, Connections as connections, Directory as dir}
 use Rattle.wfs_words.specs.Words.{is_fit}
 use Rattle.wfs_words.proofs.Lists.{name_text, Given, has, lookup, complete, completed, texts_from, read_list}
-use Rattle.wfs_words.proofs.Serving.{top, rules, rule, row, state, none, none_both, end, total, AllFit, Fit, plain, flag, serve_reads, has_row_is}
+use Rattle.wfs_words.proofs.Serving.{top, rules, rule, row, state, none, none_both, end, AllFit, Fit, plain, flag, serve_reads}
 
 cond_same : {A : Type 0} (b : Bool) (x : A) → cond b x x ≡ x
 cond_same true x = refl

@@ -1,26 +1,23 @@
 -- clap reads the words of serve as the lists do.
-use Rattle.std.proofs.Common.{◌≡◌, ℕ, zero, suc, true, false, not, ◌&&◌, ◌||◌, refl, sym, ap, ap₂, subst, ◌∙◌, List, [], ◌∷◌, ◌++◌, map, length, codes, Option, Some, None, option_map, Bool, ◌==◌, cond, inl, inr, append-nil, arith}
+use Rattle.std.proofs.Common.{◌≡◌, ℕ, true, false, not, ◌&&◌, ◌||◌, refl, sym, ap, subst, ◌∙◌, List, [], ◌∷◌, ◌++◌, map, codes, Option, Some, None, option_map, Bool, cond, inl, inr, append-nil, arith}
 use Rattle.std.proofs.lemmas.Bool.{cases_Bool}
-use Rattle.std.proofs.lemmas.Bool.Decides.{nat_tests}
-use Rattle.std.proofs.lemmas.List.{append_assoc}
 use Rattle.std.proofs.lemmas.Slice.Eq.{bytes_eq-Decides}
 use Rattle.std.specs.Prelude.{⊤}
-use Rattle.std.specs.List.{list_any, fold}
+use Rattle.std.specs.List.{fold}
 use Rattle.std.specs.Str.{bytes_eq}
-use Rattle.clap.specs.Words.{Text, App, Row, Rule, built, Kinds}
-use Rattle.clap.specs.Walk.{Held, Walk, walked, idle, option, Waiting, used, settled_rows, settled, with_values, at_row, has_row, reading_by, more_values, takes_values, arg_by_long}
+use Rattle.clap.specs.Words.{Text, Row, Rule, built, Kinds}
+use Rattle.clap.specs.Walk.{Walk, walked, idle, option, used, settled_rows, at_row, has_row, reading_by, more_values, takes_values, arg_by_long}
 use Rattle.clap.specs.Simple.{Shape, filled, with_index}
 use Rattle.clap.specs.declared.parser.matches.ValueSource.TheVariants.{CommandLine}
 use Rattle.clap.specs.declared.error.kind.ErrorKind.TheVariants as kind
 use Rattle.clap.specs.Faults.{turn_fault, walk_fault, settle_fault, long_fault}
 use Rattle.clap.specs.Kinds.{or_else}
 use Rattle.clap.specs.Lexer.{long_of, short_of}
-use Rattle.clap.proofs.OnLiterals.{clap_on_literals}
 use Rattle.wfs_words.specs.ByClap.{serve_app, listen_rule, workers_rule, connections_rule, dir_rule}
 use Rattle.wfs_words.specs.declared.options.Name.{Name}
 use Rattle.wfs_words.specs.declared.options.Name.TheVariants.{Listen as listen, Workers as workers, Connections as connections, Directory as dir}
 use Rattle.wfs_words.specs.Words.{name_of}
-use Rattle.wfs_words.proofs.Lists.{name_text, Given, has, add_list, with_name, open_list, value_list, read_list}
+use Rattle.wfs_words.proofs.Lists.{name_text, Given, has, add_list, open_list, read_list}
 
 abbrev pub top : Shape
 top = (built serve_app).top

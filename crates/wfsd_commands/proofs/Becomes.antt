@@ -1,5 +1,5 @@
 -- How a store goes on, step after step.
-use Rattle.std.proofs.Common.{◌≡◌, ℕ, ◌≤◌, List, [], ◌∷◌, ◌++◌, Option, Some, None, Result, Ok, Err, inl, inr, refl, sym, ap, ◌∙◌, subst, arith}
+use Rattle.std.proofs.Common.{◌≡◌, ℕ, ◌≤◌, List, [], ◌∷◌, Option, Some, None, Result, Ok, Err, inl, inr, refl, ◌∙◌, arith}
 use Rattle.std.specs.Prelude.{IfSome}
 use Rattle.disk_core.specs.declared.disk.Disk.{Ghosts as DiskMeaning}
 use Rattle.disk_core.specs.declared.pair.Pair.{Pair}
@@ -15,7 +15,7 @@ use Rattle.wfs_model.specs.OfSchema.{IsOfSchema}
 use Rattle.wfs_store.specs.declared.fault.StepFault.{StepFault}
 use Rattle.wfs_store.specs.declared.fault.StepFault.TheVariants.{StoreFault, Full, OutOfMemory}
 use Rattle.wfs_store.specs.Held.{Held, now_of}
-use Rattle.wfs_store.specs.Stepped.{IsStepOf, SameOpening, taken_up, change_by}
+use Rattle.wfs_store.specs.Stepped.{IsStepOf, taken_up, change_by}
 use Rattle.wfs_store.specs.Written.{begun_after}
 use Rattle.wfsd_commands.specs.Becoming.{the_seat, history_of, RestsUnless, GoesOn, IsLegalStore, HasOwnEntries, Stands, IsLeft}
 

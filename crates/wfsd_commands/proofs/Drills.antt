@@ -1,10 +1,10 @@
 -- How a drill comes on with a store, request after request.
-use Rattle.std.proofs.Common.{◌≡◌, ℕ, zero, suc, ◌+◌, ◌-◌, ◌%◌, ◌<◌, ◌≤◌, List, [], ◌∷◌, ◌++◌, length, Option, Some, None, Result, Ok, Err, inl, inr, refl, sym, ap, ◌∙◌, subst, arith, append-nil, append_assoc, add-suc, add-zero, add-one}
+use Rattle.std.proofs.Common.{◌≡◌, ℕ, zero, suc, ◌+◌, ◌-◌, ◌%◌, ◌<◌, List, [], ◌∷◌, ◌++◌, length, Option, Some, None, Result, Ok, Err, inl, inr, refl, sym, ap, ◌∙◌, subst, arith, append-nil, append_assoc, add-suc, add-zero, add-one}
 use Rattle.std.specs.Prelude.{All, IfSome, ◌⊎◌}
 use Rattle.std.proofs.lemmas.List.Elements.{All-head, All-tail}
 use Rattle.disk_core.specs.declared.disk.Disk.{Ghosts as DiskMeaning}
 use Rattle.disk_core.specs.declared.pair.Pair.{Pair}
-use Rattle.drill_requests.specs.Carried.{Ground, Course, at_first, state_at, entry_at, full_next, entered, counted, matched_in, taken_in, Carried, none, changed, looked}
+use Rattle.drill_requests.specs.Carried.{Ground, Course, at_first, state_at, entry_at, full_next, entered, counted, matched_in, taken_in, none, changed, looked}
 use Rattle.drill_requests.specs.Fitting.{IsOneOf}
 use Rattle.drill_requests.specs.Requests.{drill_of, requests_before, requests_of}
 use Rattle.drill_requests.specs.Drawn.{Drawn}
@@ -13,7 +13,6 @@ use Rattle.feature_values.specs.declared.schema.Schema.{Schema}
 use Rattle.program_lines.specs.Lines.{GivesOr}
 use Rattle.wfs_ends.specs.Ends.{Shown}
 use Rattle.wfs_model.specs.declared.entry.Entry.{Entry}
-use Rattle.wfs_model.specs.declared.limits.FullAt.{FullAt}
 use Rattle.wfs_model.specs.declared.reply.Reply.{Reply}
 use Rattle.wfs_model.specs.declared.request.Request.{Request}
 use Rattle.wfs_model.specs.Changing.{IsChange}
@@ -26,9 +25,9 @@ use Rattle.wfs_store.specs.Held.{Held, kept_of}
 use Rattle.wfs_store.specs.Stepped.{IsStepOf, SameOpening, taken_up, full_for}
 use Rattle.wfsd_commands.specs.declared.done.Done.{Done}
 use Rattle.wfsd_commands.specs.declared.drilling.Sums.{Sums}
-use Rattle.wfsd_commands.specs.Becoming.{the_seat, GoesOn, Stands, IsLeft}
+use Rattle.wfsd_commands.specs.Becoming.{GoesOn, Stands, IsLeft}
 use Rattle.wfsd_commands.specs.Drilled.{SumsUp, Stops, IsTold, DrillsWith, summed, stopped}
-use Rattle.wfsd_commands.specs.Drilling.{ground_of, IsSum, HasDone, HasCome, StopsFor, HasStopped, CarriesOn, CarriesAll, StopsWithin, RunsThrough}
+use Rattle.wfsd_commands.specs.Drilling.{ground_of, IsSum, HasCome, StopsFor, HasStopped, CarriesOn, CarriesAll, StopsWithin, RunsThrough}
 use Rattle.wfsd_commands.specs.Left.{LeavesStore}
 use Rattle.wfsd_commands.specs.Starting.{IsStarted}
 use Rattle.wfsd_commands.specs.Statuses.{stopped_line, stopped_status}

@@ -1,5 +1,5 @@
 -- Ends before a store is started.
-use Rattle.std.proofs.Common.{◌≡◌, ℕ, Ok, Err, Option, None}
+use Rattle.std.proofs.Common.{◌≡◌, ℕ, Ok, Err, None}
 use Rattle.disk_core.specs.declared.pair.Pair.{Pair}
 use Rattle.feature_values.specs.declared.schema.Schema.{Schema}
 use Rattle.std.specs.Prelude.{Result, IfSome}

@@ -1,5 +1,5 @@
 -- A store that is closed and started again.
-use Rattle.std.proofs.Common.{◌≡◌, ◌⊎◌, inl, inr, ℕ, Bool, List, [], ◌∷◌, Option, Some, None, Result, Ok, Err, refl, sym, ap, ◌∙◌, subst, All}
+use Rattle.std.proofs.Common.{◌≡◌, inl, inr, ℕ, List, [], ◌∷◌, Option, Some, None, Result, Ok, Err, refl, sym, ap, ◌∙◌, subst, All}
 use Rattle.std.specs.Prelude.{IfOk}
 use Rattle.std.proofs.lemmas.List.Elements.{All-head, All-tail}
 use Rattle.disk_core.specs.declared.disk.Disk.{Ghosts as DiskMeaning}
@@ -10,7 +10,7 @@ use Rattle.durable_journal.specs.Standing.{ComeTo, SaysKept, SaysWith}
 use Rattle.feature_journal.specs.Whole.{Says, OneOf}
 use Rattle.feature_journal.proofs.Recovered.{says_recovered}
 use Rattle.feature_values.specs.declared.schema.Schema.{Schema}
-use Rattle.journal_replay.specs.Replayed.{verdict_on, replayed}
+use Rattle.journal_replay.specs.Replayed.{verdict_on}
 use Rattle.recovery.specs.Outcome.{Judge, Outcome, outcome_of}
 use Rattle.recovery.specs.Outcome.Outcome.{refused, no_side, found}
 use Rattle.recovery.proofs.Agrees.{agreed, recovers_found, says_side}

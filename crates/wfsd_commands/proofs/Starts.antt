@@ -1,5 +1,5 @@
 -- A start of the store, with the limits that are stated.
-use Rattle.std.proofs.Common.{◌≡◌, ◌⊎◌, ℕ, List, All, length, Some, Result, Ok, Err, refl, sym, subst}
+use Rattle.std.proofs.Common.{◌≡◌, ◌⊎◌, ℕ, List, All, length, Some, Result, Ok, Err, refl, subst}
 use Rattle.std.specs.Prelude.{IfOk, IfErr}
 use Rattle.disk_core.specs.declared.disk.Disk.{Ghosts as DiskMeaning}
 use Rattle.disk_core.specs.declared.pair.Pair.{Pair}

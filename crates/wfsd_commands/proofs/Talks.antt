@@ -1,5 +1,5 @@
 -- What a session over two ends comes to, and the history that it leaves.
-use Rattle.std.proofs.Common.{◌≡◌, inl, inr, ℕ, List, [], ◌∷◌, Option, Some, None, ap, ◌∙◌}
+use Rattle.std.proofs.Common.{◌≡◌, inl, inr, ℕ, List, [], ◌∷◌, Option, None, ap, ◌∙◌}
 use Rattle.std.specs.Prelude.{IfSome}
 use base.Fml.{GName}
 use Rattle.disk_core.specs.declared.disk.Disk.{Ghosts as DiskMeaning}

@@ -1,4 +1,4 @@
-use Rattle.std.proofs.Common.{◌≡◌, ◌∙◌, IsSome, Option, Some, Bor, refl, subst, sym}
+use Rattle.std.proofs.Common.{◌∙◌, IsSome, Option, Some, Bor, refl, subst, sym}
 use Rattle.std.specs.Option.{option_copied}
 use Rattle.wfs_model.specs.declared.change.Change.{Change}
 use Rattle.snapshot_reads.specs.Publishers.{Follows}

@@ -1,8 +1,8 @@
-use Rattle.std.proofs.Common.{◌≡◌, ◌∙◌, ap, ap₂, rules, codes, refl, true}
+use Rattle.std.proofs.Common.{◌≡◌, ◌∙◌, ap, ap₂, rules, true}
 use Rattle.std.proofs.lemmas.Result.{IfOk-weaker}
-use Rattle.clap.specs.Words.{app_of, rule_of, with_rule, Rule, App}
+use Rattle.clap.specs.Words.{app_of, rule_of, with_rule, App}
 use Rattle.clap.specs.Simple.{app_of_fields}
-use Rattle.wfs_words.specs.ByClap.{serve_app, bare_app, listen_rule, workers_rule, connections_rule, dir_rule}
+use Rattle.wfs_words.specs.ByClap.{bare_app, listen_rule, workers_rule, connections_rule, dir_rule}
 use Rattle.wfs_words.proofs.by_clap.serve_usage.Goals as goal
 
 pub returns : goal.returns
