@@ -9,7 +9,7 @@ use disk_core::{Disk, MemDisk, Pair};
 use feature_journal::Journal;
 use std::alloc::Global;
 use std::test::Fail;
-use wfs_ends::{Failed, Mem};
+use wfs_ends::{Failed, Mem, OutOfMemory};
 
 // The record `hi`, and then the record `ho`, each of which is left or not.
 #[derive(Drop)]
@@ -40,6 +40,34 @@ impl RecordSource for Greetings {
     }
 }
 
+fn both() -> Greetings {
+    Greetings { hi: true, ho: true }
+}
+
+// The record `hi`, which is left or not, and behind it `ho`, for which there is never memory.
+#[derive(Drop)]
+struct Cramped {
+    hi: bool,
+}
+
+impl RecordSource for Cramped {
+    ghost use Rattle.std.specs.Prelude.{[], ◌∷◌, ◌++◌, if◌then◌else◌};
+
+    ghost left = { λ s. (if s.hi then (104 ∷ 105 ∷ []) ∷ [] else [])
+        ++ ((104 ∷ 111 ∷ []) ∷ []) };
+
+    fn next_body(&mut self, into: &mut Vec<u8>) -> Mem<bool> {
+        into.clear();
+        if self.hi {
+            into.extend_from_slice(b"hi")?;
+            self.hi = false;
+            Ok(true)
+        } else {
+            Err(OutOfMemory)
+        }
+    }
+}
+
 // An empty disk. The calls that are listed fail, and all from the stop on.
 fn empty_disk(alloc: Global, failing: &[u64], stop: Option<u64>) -> Mem<MemDisk>
     ensures { IfOk result (λ m. Unused (⟦<MemDisk as Disk>⟧.images m)) }
@@ -49,11 +77,12 @@ fn empty_disk(alloc: Global, failing: &[u64], stop: Option<u64>) -> Mem<MemDisk>
     MemDisk::new(alloc, Vec::new(alloc), 60, 200, listed, stop)
 }
 
-// A checkpoint of both greetings over a fresh journal: what it answers, and the journal.
-fn run<D: Disk + Drop>(
+// A checkpoint of these records over a fresh journal: what it answers, and the journal.
+fn run<D: Disk + Drop, R: RecordSource>(
     alloc: Global,
     disks: Pair<D>,
     limit: u64,
+    records: &mut R,
 ) -> Result<(Result<(), CompactFault>, Journal<D>), Failed>
     requires unused { Unused (D.images disks.a) × Unused (D.images disks.b) }
     requires limit { (17 ≤ limit) × (limit ≤ 200) }
@@ -62,13 +91,13 @@ fn run<D: Disk + Drop>(
         Err(_) => Err(Failed),
         Ok(journal) => {
             let mut journal = journal;
-            let answer = compact(alloc, &mut journal, &mut Greetings { hi: true, ho: true });
+            let answer = compact(alloc, &mut journal, records);
             Ok((answer, journal))
         }
     }
 }
 
-// The same, and another checkpoint behind it: what that one answers, and the journal.
+// A checkpoint of both greetings, and another one behind it: what that one answers, and the journal.
 fn run_twice<D: Disk + Drop>(
     alloc: Global,
     disks: Pair<D>,
@@ -81,14 +110,10 @@ fn run_twice<D: Disk + Drop>(
         Err(_) => Err(Failed),
         Ok(journal) => {
             let mut journal = journal;
-            match compact(alloc, &mut journal, &mut Greetings { hi: true, ho: true }) {
+            match compact(alloc, &mut journal, &mut both()) {
                 Err(_) => Err(Failed),
                 Ok(()) => {
-                    let answer = compact(
-                        alloc,
-                        &mut journal,
-                        &mut Greetings { hi: true, ho: true },
-                    );
+                    let answer = compact(alloc, &mut journal, &mut both());
                     Ok((answer, journal))
                 }
             }
@@ -156,7 +181,7 @@ fn first_left_otherwise(alloc: Global) -> Result<Option<usize>, Fail> {
     for (i, (call, is_made, is_begun, keep, want)) in STOPS.iter().enumerate() {
         let a = empty_disk(alloc, &[], None)?;
         let b = empty_disk(alloc, &[], Some(*call))?;
-        let ran = run(alloc, Pair { a, b }, 100)?;
+        let ran = run(alloc, Pair { a, b }, 100, &mut both())?;
         if !ends_so(ran, *is_made, *is_begun, *keep, want) {
             return Ok(Some(i));
         }
@@ -188,7 +213,7 @@ fn seen_of<D: Disk + Drop>(
 fn a_checkpoint_is_as_long_as_its_records(rt: HostRuntime) -> Result<(), Fail> {
     let alloc = rt.alloc();
     let (a, b) = (empty_disk(alloc, &[], None)?, empty_disk(alloc, &[], None)?);
-    let ran = run(alloc, Pair { a, b }, 31)?;
+    let ran = run(alloc, Pair { a, b }, 31, &mut both())?;
     assert_eq!(rt; seen_of(ran), (Ok(()), false, 2, 31));
     Ok(())
 }
@@ -206,7 +231,19 @@ fn a_second_one_has_all_records_too(rt: HostRuntime) -> Result<(), Fail> {
 fn a_longer_one_is_refused(rt: HostRuntime) -> Result<(), Fail> {
     let alloc = rt.alloc();
     let (a, b) = (empty_disk(alloc, &[], None)?, empty_disk(alloc, &[], None)?);
-    let ran = run(alloc, Pair { a, b }, 30)?;
+    let ran = run(alloc, Pair { a, b }, 30, &mut both())?;
     assert_eq!(rt; seen_of(ran), (Err(CompactFault::Full(31)), false, 1, 17));
+    Ok(())
+}
+
+#[test]
+fn one_without_memory_for_a_record_is_refused(rt: HostRuntime) -> Result<(), Fail> {
+    let alloc = rt.alloc();
+    let (a, b) = (empty_disk(alloc, &[], None)?, empty_disk(alloc, &[], None)?);
+    let ran = run(alloc, Pair { a, b }, 100, &mut Cramped { hi: true })?;
+    assert_eq!(rt;
+        seen_of(ran),
+        (Err(CompactFault::OutOfMemory), false, 1, 17)
+    );
     Ok(())
 }
