@@ -1,5 +1,9 @@
-//! Rows of the program: runs from words, bytes and two files to bytes, two files and a status.
+//! Rows of the program on one connection: what sessions answer, from bytes to bytes.
 #![tactic(auto)]
 
 #[cfg(test)]
-mod rows;
+mod queries;
+#[cfg(test)]
+mod served;
+#[cfg(test)]
+mod sessions;

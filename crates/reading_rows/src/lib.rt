@@ -1,8 +1,6 @@
-//! Rows of the readers: what documents, filters, queries and requests are read as, or the refusal that the standards name.
+//! Rows of the readers: what filters, queries and requests are read as, or the refusal that the standards name.
 #![tactic(auto)]
 
-#[cfg(test)]
-mod documents;
 #[cfg(test)]
 mod filters;
 #[cfg(test)]

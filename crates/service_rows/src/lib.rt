@@ -1,4 +1,4 @@
-//! Rows of the service: what reads, plans, changes and replies come to, worked out by hand.
+//! Rows of the service: what reads, plans and changes come to, worked out by hand.
 #![tactic(auto)]
 
 #[cfg(test)]
@@ -9,8 +9,6 @@ mod marks;
 mod plans;
 #[cfg(test)]
 mod reads;
-#[cfg(test)]
-mod replies;
 #[cfg(test)]
 mod samples;
 #[cfg(test)]

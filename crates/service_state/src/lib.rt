@@ -11,6 +11,3 @@ pub use fault::PrepareFault;
 pub use feature_versions::Features;
 pub use request_plans::Plan;
 pub use state::ServiceState;
-
-#[cfg(test)]
-mod tests;

@@ -1,0 +1,153 @@
+//! Requests for marks.
+
+ghost use Rattle.std.specs.Prelude.{IfOk, All, Some};
+ghost use Rattle.request_plans.specs.Marks.{AreAsked, AreMarks, IsOne};
+ghost use Rattle.wfs_model.specs.Changing.{IsChange};
+ghost use Rattle.wfs_model.specs.OfSchema.{IsFilterOf, IsQueryOf, IsActionOf, IsOfSchema, IsStoredOf};
+
+use crate::marks::{mark, new_mark};
+use feature_values::Schema;
+use fes_filter::{Filter, IdRef, Query, check};
+use lock_table::{LockId, Release};
+use std::alloc::Global;
+use wfs_ends::{List, Mem, OutOfMemory, Text};
+use wfs_model::{Action, Asked, Request, StoredQuery, Take};
+
+/// What is asked.
+#[derive(Clone, Copy)]
+pub enum Ask {
+    /// A mark is inserted.
+    Insert,
+    /// A mark is deleted, under a lock or without one.
+    Delete(u64, Option<LockId>),
+    /// A mark is locked for 60 seconds.
+    Lock(u64),
+    /// A stored query is made.
+    Create(&'static str),
+}
+
+fn of_one(alloc: Global, number: u64) -> Mem<Filter>
+    ensures { IfOk result IsOne }
+{
+    let mut ids = Vec::new(alloc);
+    ids.push(IdRef::Known(mark(number)))?;
+    Ok(Filter::Ids(List::of(ids)))
+}
+
+#[tactic(auto, using(request_plans::proofs::Marks::one_is_of))]
+fn filter(alloc: Global, schema: &Schema, number: u64) -> Mem<Filter>
+    requires { AreMarks schema.now }
+    ensures { IfOk result (λ f. IsFilterOf schema.now (Some 0) 0 f) }
+{
+    let filter = of_one(alloc, number)?;
+    match check(&filter, Some(0), schema) {
+        Ok(()) => Ok(filter),
+        Err(_) => Err(OutOfMemory),
+    }
+}
+
+#[tactic(auto, using(request_plans::proofs::Marks::query_is_of))]
+fn query(alloc: Global, schema: &Schema, number: u64) -> Mem<Query>
+    requires { AreMarks schema.now }
+    ensures { IfOk result (IsQueryOf schema.now 0) }
+{
+    Ok(Query {
+        kind: Some(0),
+        filter: Some(filter(alloc, schema, number)?),
+        sort: List::of(Vec::new(alloc)),
+    })
+}
+
+#[tactic(auto, using(request_plans::proofs::Marks::are_asked))]
+fn asked(alloc: Global, schema: &Schema, number: u64) -> Mem<List<Asked>>
+    requires { AreMarks schema.now }
+    ensures { IfOk result (AreAsked schema.now) }
+{
+    let mut asked = Vec::new(alloc);
+    asked.push(Asked::Plain(query(alloc, schema, number)?))?;
+    Ok(List::of(asked))
+}
+
+#[tactic(auto, using(request_plans::proofs::Marks::alone))]
+fn insert(alloc: Global, schema: &Schema) -> Mem<Action>
+    ensures { IfOk result (IsActionOf schema.now) }
+{
+    let mut features = Vec::new(alloc);
+    features.push(new_mark(alloc, schema)?)?;
+    Ok(Action::Insert {
+        handle: None,
+        features: List::of(features),
+    })
+}
+
+#[tactic(auto, using(request_plans::proofs::Marks::kind_is_of))]
+fn delete(alloc: Global, schema: &Schema, number: u64) -> Mem<Action>
+    requires { AreMarks schema.now }
+    ensures { IfOk result (IsActionOf schema.now) }
+{
+    Ok(Action::Delete {
+        kind: 0,
+        filter: filter(alloc, schema, number)?,
+    })
+}
+
+#[tactic(auto, using(request_plans::proofs::Marks::alone, request_plans::proofs::Marks::transaction_is_of))]
+fn transaction(alloc: Global, schema: &Schema, lock: Option<LockId>, action: Action) -> Mem<Request>
+    requires { IsActionOf schema.now action }
+    ensures change { IfOk result IsChange }
+    ensures fitting { IfOk result (IsOfSchema schema.now) }
+{
+    let mut actions = Vec::new(alloc);
+    actions.push(action)?;
+    Ok(Request::Transact {
+        lock,
+        release: Release::Whole,
+        actions: List::of(actions),
+    })
+}
+
+#[tactic(auto, using(request_plans::proofs::Marks::stored_is_of))]
+fn definition(alloc: Global, schema: &Schema, id: &str) -> Mem<StoredQuery>
+    ensures { IfOk result (IsStoredOf schema.now) }
+{
+    let id = Text::of(alloc, id)?;
+    let title = Text::of(alloc, "")?;
+    let text = Text::of(alloc, "")?;
+    Ok(StoredQuery {
+        id,
+        title,
+        parameters: List::of(Vec::new(alloc)),
+        queries: List::of(Vec::new(alloc)),
+        text,
+    })
+}
+
+#[tactic(auto, using(request_plans::proofs::Marks::alone))]
+fn definitions(alloc: Global, schema: &Schema, id: &str) -> Mem<List<StoredQuery>>
+    ensures { IfOk result (All (IsStoredOf schema.now)) }
+{
+    let mut definitions = Vec::new(alloc);
+    definitions.push(definition(alloc, schema, id)?)?;
+    Ok(List::of(definitions))
+}
+
+/// The request that asks this.
+#[tactic(auto, using(request_plans::proofs::Marks::lock_is_of, request_plans::proofs::Marks::creation_is_of))]
+pub fn request(alloc: Global, schema: &Schema, ask: Ask) -> Mem<Request>
+    requires { AreMarks schema.now }
+    ensures change { IfOk result IsChange }
+    ensures fitting { IfOk result (IsOfSchema schema.now) }
+{
+    match ask {
+        Ask::Insert => transaction(alloc, schema, None, insert(alloc, schema)?),
+        Ask::Delete(number, lock) => {
+            transaction(alloc, schema, lock, delete(alloc, schema, number)?)
+        }
+        Ask::Lock(number) => Ok(Request::Lock {
+            asked: asked(alloc, schema, number)?,
+            take: Take::AllOrNone,
+            period: 60,
+        }),
+        Ask::Create(id) => Ok(Request::CreateStored(definitions(alloc, schema, id)?)),
+    }
+}

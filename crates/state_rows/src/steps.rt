@@ -1,0 +1,297 @@
+//! Steps of one opening. What each comes to was worked out by hand from the rules of locks and limits.
+
+ghost use Rattle.std.specs.Prelude.{◌≡◌, OnOk};
+ghost use Rattle.request_plans.specs.Marks.{AreMarks};
+ghost use Rattle.wfs_model.specs.Changing.{IsChange};
+ghost use Rattle.wfs_model.specs.OfSchema.{IsOfSchema};
+ghost use Rattle.service_state.specs.Running.{IsStepOf};
+
+use crate::asks::{Ask, request};
+use crate::marks::{first_state, schema};
+use feature_values::Schema;
+use lock_table::LockId;
+use service_state::{PrepareFault, ServiceState};
+use std::alloc::Global;
+use wfs_ends::Mem;
+use wfs_model::{FullAt, LimitName, Limits, Reply, Request};
+
+/// What a step comes to.
+#[derive(Clone, Copy)]
+enum Outcome {
+    /// This mark was inserted.
+    Inserted(u64),
+    /// So many marks were deleted.
+    Deleted(u64),
+    Locked(LockId),
+    Created,
+    /// The row of the refusal.
+    Refused(u8),
+    /// The limit that the step would pass, and the quantity before it.
+    Full(LimitName, u64),
+}
+
+/// What is shown, the moment that is handed in, what is asked, and what it comes to.
+type Step = (&'static str, u64, Ask, Outcome);
+
+const FIRST: LockId = LockId {
+    opening: 1,
+    number: 1,
+};
+
+const SECOND: LockId = LockId {
+    opening: 1,
+    number: 2,
+};
+
+/// With at most three marks, four numbers, one live lock and one stored query.
+static STEPS: [Step; 18] = [
+    ("a first mark", 1000, Ask::Insert, Outcome::Inserted(1)),
+    ("a second mark", 1000, Ask::Insert, Outcome::Inserted(2)),
+    (
+        "a lock until 1060",
+        1000,
+        Ask::Lock(1),
+        Outcome::Locked(FIRST),
+    ),
+    (
+        "one live lock more than may be",
+        1059,
+        Ask::Lock(2),
+        Outcome::Full(LimitName::Locks, 1),
+    ),
+    (
+        "the locked mark goes, without its lock",
+        1059,
+        Ask::Delete(1, None),
+        Outcome::Refused(18),
+    ),
+    (
+        "a third mark, at a moment before the last one",
+        900,
+        Ask::Insert,
+        Outcome::Inserted(3),
+    ),
+    (
+        "one mark more than may stand",
+        1059,
+        Ask::Insert,
+        Outcome::Full(LimitName::Features, 3),
+    ),
+    (
+        "the locked mark goes, under its lock",
+        1059,
+        Ask::Delete(1, Some(FIRST)),
+        Outcome::Deleted(1),
+    ),
+    (
+        "its lock has ended",
+        1059,
+        Ask::Delete(2, Some(FIRST)),
+        Outcome::Refused(16),
+    ),
+    (
+        "another lock, until 1119, at a moment before the last one",
+        900,
+        Ask::Lock(2),
+        Outcome::Locked(SECOND),
+    ),
+    (
+        "it lives on",
+        1118,
+        Ask::Delete(2, None),
+        Outcome::Refused(18),
+    ),
+    (
+        "a lock at its deadline",
+        1119,
+        Ask::Delete(2, Some(SECOND)),
+        Outcome::Refused(16),
+    ),
+    (
+        "what it held goes",
+        1119,
+        Ask::Delete(2, None),
+        Outcome::Deleted(1),
+    ),
+    ("a fourth number", 1119, Ask::Insert, Outcome::Inserted(4)),
+    (
+        "one number more than may be given",
+        1119,
+        Ask::Insert,
+        Outcome::Full(LimitName::Ids, 4),
+    ),
+    (
+        "a stored query",
+        1119,
+        Ask::Create("urn:x:one"),
+        Outcome::Created,
+    ),
+    (
+        "the same once more",
+        1119,
+        Ask::Create("urn:x:one"),
+        Outcome::Refused(21),
+    ),
+    (
+        "one stored query more than may be",
+        1119,
+        Ask::Create("urn:x:two"),
+        Outcome::Full(LimitName::Stored, 1),
+    ),
+];
+
+// The limits, where so many locks may live.
+fn limits(locks: u16) -> Limits {
+    let stated = Limits::stated();
+    Limits {
+        entries: stated.entries,
+        bytes: stated.bytes,
+        features: 3,
+        ids: 4,
+        locks: u64::from(locks),
+        stored: 1,
+        side: stated.side,
+    }
+}
+
+// A step at the moment at which an entry is taken up that comes at this one.
+fn step(
+    state: &mut ServiceState,
+    moment: u64,
+    request: &Request,
+    limits: &Limits,
+) -> Result<Reply, PrepareFault>
+    requires change { IsChange request.now }
+    requires fitting { IsOfSchema state.old.schema request.now }
+    ensures step { IsStepOf state.old moment request.now result state.new }
+    ensures schema { state.new.schema ≡ state.old.schema }
+{
+    let moment = state.moment_of(moment);
+    let plan = state.plan(moment, request)?;
+    state.prepare(&plan, moment, limits)?;
+    Ok(state.carry(plan, moment))
+}
+
+fn is_outcome(outcome: &Result<Reply, PrepareFault>, wanted: Outcome) -> bool {
+    match (outcome, wanted) {
+        (
+            Ok(
+                Reply::Transacted {
+                    deleted,
+                    inserted,
+                    ..
+                },
+            ),
+            Outcome::Inserted(number),
+        ) => *deleted == 0
+            && inserted.items().len() == 1
+            && inserted.items()[0].id.number == number,
+        (
+            Ok(
+                Reply::Transacted {
+                    deleted,
+                    inserted,
+                    ..
+                },
+            ),
+            Outcome::Deleted(gone),
+        ) => *deleted == gone && inserted.items().is_empty(),
+        (Ok(Reply::Locked { lock, .. }), Outcome::Locked(id)) => *lock == Some(id),
+        (Ok(Reply::Created), Outcome::Created) => true,
+        (Ok(Reply::Refused(refusal)), Outcome::Refused(row)) => refusal.row == row,
+        (Err(PrepareFault::Full(at)), Outcome::Full(limit, number)) => {
+            *at == FullAt { limit, number }
+        }
+        _ => false,
+    }
+}
+
+fn comes_to(alloc: Global, schema: &Schema, state: &mut ServiceState, row: &Step) -> Mem<bool>
+    requires marks { AreMarks schema.now }
+    requires schema { state.old.schema ≡ schema.now }
+    ensures { state.new.schema ≡ state.old.schema }
+{
+    let (_, moment, ask, outcome) = *row;
+    let request = request(alloc, schema, ask)?;
+    Ok(is_outcome(&step(state, moment, &request, &limits(1)), outcome))
+}
+
+fn first_of(
+    alloc: Global,
+    schema: &Schema,
+    state: &mut ServiceState,
+    rows: &[Step],
+) -> Mem<Option<&'static str>>
+    requires marks { AreMarks schema.now }
+    requires schema { state.old.schema ≡ schema.now }
+    ensures { state.new.schema ≡ state.old.schema }
+{
+    for row in rows {
+        if !comes_to(alloc, schema, state, row)? {
+            return Ok(Some(row.0));
+        }
+    }
+    Ok(None)
+}
+
+// How many stored queries are told, the built-in one with them.
+fn stored(state: &ServiceState) -> Mem<u64> {
+    match state.read(1119, &Request::ListStored)? {
+        Reply::StoredList(queries) => Ok(queries.items().len() as u64),
+        _ => Ok(0),
+    }
+}
+
+// What is told at the end: marks, numbers, stored queries, the last moment, the opening.
+fn told(state: &ServiceState) -> Mem<[u64; 5]> {
+    let features = state.features();
+    let queries = stored(state)?;
+    Ok([
+        features.count(),
+        features.counter(0),
+        queries,
+        state.last(),
+        state.opening(),
+    ])
+}
+
+fn first_wrong(alloc: Global) -> Mem<(Option<&'static str>, [u64; 5])> {
+    let schema = schema(alloc)?;
+    let mut state = first_state(alloc, &schema)?;
+    let wrong = first_of(alloc, &schema, &mut state, &STEPS)?;
+    Ok((wrong, told(&state)?))
+}
+
+#[test]
+fn steps_come_to_what_was_worked_out(rt: HostRuntime) {
+    assert_eq!(rt; first_wrong(rt.alloc()), Ok((None, [2, 4, 2, 1119, 1])));
+}
+
+// What is told of one more lock, where one lives and none may any more.
+fn lock_above(alloc: Global, schema: &Schema, state: &mut ServiceState) -> Mem<Option<FullAt>>
+    requires marks { AreMarks schema.now }
+    requires schema { state.old.schema ≡ schema.now }
+{
+    let request = request(alloc, schema, Ask::Lock(2))?;
+    match step(state, 1000, &request, &limits(0)) {
+        Err(PrepareFault::Full(at)) => Ok(Some(at)),
+        _ => Ok(None),
+    }
+}
+
+// The first three steps, and that one.
+fn told_above(alloc: Global) -> Mem<(Option<&'static str>, Option<FullAt>)> {
+    let schema = schema(alloc)?;
+    let mut state = first_state(alloc, &schema)?;
+    let wrong = first_of(alloc, &schema, &mut state, &STEPS[..3])?;
+    Ok((wrong, lock_above(alloc, &schema, &mut state)?))
+}
+
+#[test]
+fn more_than_the_limit_is_told_as_it_is(rt: HostRuntime) {
+    let one_lives = FullAt {
+        limit: LimitName::Locks,
+        number: 1,
+    };
+    assert_eq!(rt; told_above(rt.alloc()), Ok((None, Some(one_lives))));
+}
