@@ -20,6 +20,7 @@ use wfs_store::Store;
 
 mod beside;
 mod faults;
+mod states;
 mod turns;
 
 const SCHEMA: &str =
@@ -182,17 +183,22 @@ type Given<'a> = Slot<MemAcceptor, ListClock, Post<'a>>;
 
 type Left<'a> = Ended<MemAcceptor, ListClock, Post<'a>>;
 
-// A link from which this comes.
-fn link(alloc: Global, input: &str) -> Mem<MemLink> {
+// A link from which this comes, and to which so many bytes may be written.
+fn link(alloc: Global, input: &str, room: u64) -> Mem<MemLink> {
     let input = Vec::from_slice(alloc, input.as_bytes())?;
-    MemLink::new(alloc, input, 2_000, Vec::new(alloc), Vec::new(alloc))
+    MemLink::new(alloc, input, room, Vec::new(alloc), Vec::new(alloc))
 }
 
-// An acceptor of one link, from which this comes. Its listed calls fail.
-fn acceptor(alloc: Global, input: &str, failing: &[u64]) -> Mem<MemAcceptor> {
+// An acceptor of one such link. Its listed calls fail.
+fn acceptor_with(alloc: Global, input: &str, room: u64, failing: &[u64]) -> Mem<MemAcceptor> {
     let failing = Vec::from_slice(alloc, failing)?;
-    let links = vec![in alloc; link(alloc, input)?]?;
+    let links = vec![in alloc; link(alloc, input, room)?]?;
     Ok(MemAcceptor::new(links, failing))
+}
+
+// One of a link to which 2,000 bytes may be written.
+fn acceptor(alloc: Global, input: &str, failing: &[u64]) -> Mem<MemAcceptor> {
+    acceptor_with(alloc, input, 2_000, failing)
 }
 
 // A clock at the moment 1000.
