@@ -52,6 +52,19 @@ fn selects_what_meets_a_box(rt: HostRuntime) {
     assert_eq!(rt; wrong_box(rt.alloc()), Ok(None));
 }
 
+/// How many features are walked over for those of a type in a box; none where others are selected than these.
+fn walked_for_a_box(alloc: Global) -> Mem<Option<u64>> {
+    let view = sample(alloc)?;
+    let filter = in_box(None, AREA)?;
+    let is_right = selects(alloc, &view, Some(0), Some(filter), &[(0, 4)])?;
+    Ok(is_right.then_some(view.walked()))
+}
+
+#[test]
+fn walks_over_nothing_for_a_box(rt: HostRuntime) {
+    assert_eq!(rt; walked_for_a_box(rt.alloc()), Ok(Some(0)));
+}
+
 /// The box beside another part, both in a `Both`.
 fn beside(alloc: Global, view: &SampleView, other: Filter, wanted: &[Place]) -> Mem<bool> {
     let area = in_box(Some(COURSE), AREA)?;

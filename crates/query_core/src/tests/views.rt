@@ -12,13 +12,22 @@ use fes_filter::FeatureView;
 use geom_core::Box2;
 use std::alloc::Global;
 use std::marker::Model;
+use std::sync::atomic::{AtomicU64, Ordering};
 use wfs_ends::{List, Mem, OutOfMemory, Text};
 
-/// A few features in order, which a schema allows.
+/// A few features in order, which a schema allows. It counts how often the one behind another is asked for.
 #[derive(Drop)]
 pub struct SampleView {
     features: List<Feature>,
     schema: Schema,
+    walked: AtomicU64,
+}
+
+impl SampleView {
+    /// How often the feature behind another was asked for.
+    pub fn walked(&self) -> u64 {
+        self.walked.load(Ordering::Relaxed)
+    }
 }
 
 impl Model for SampleView {
@@ -50,7 +59,10 @@ impl FeatureView for SampleView {
     fn next(&self, after: Option<Rid>) -> Option<&Feature> {
         match after {
             None => self.features.items().first(),
-            Some(id) => first_behind(self.features.items(), id),
+            Some(id) => {
+                self.walked.fetch_add(1, Ordering::Relaxed);
+                first_behind(self.features.items(), id)
+            }
         }
     }
 
@@ -170,6 +182,7 @@ fn view_of(schema: Schema, features: Vec<Feature>) -> Mem<SampleView> {
     Ok(SampleView {
         features: List::of(features),
         schema,
+        walked: AtomicU64::new(0),
     })
 }
 
