@@ -19,6 +19,8 @@ use Rattle.fes_filter.proofs.query.SortKey.TheSendSync.{the_field_send as sort_s
 use Rattle.fes_filter.proofs.filter.Filter.TheLaws.TheKnot as filter_knot
 use Rattle.fes_filter.specs.contracts.filter.Filter as filter
 use Rattle.fes_filter.specs.contracts.query.Query as query
+use Rattle.wfs_model.proofs.change.Part.TheSendSync.{the_field_send as part_send}
+use Rattle.wfs_model.specs.contracts.change.Change as change
 use Rattle.wfs_model.specs.contracts.stored.StoredQuery as stored_query
 use Rattle.stored_queries.specs.contracts.stored.Stored as stored
 use Rattle.feature_versions.proofs.layer.Layer.TheSendSync.{the_send as layer_send, the_sync as layer_sync}
@@ -27,6 +29,8 @@ use Rattle.left_right.proofs.reader.Reader.TheSendSync.{the_field_send as reader
 use Rattle.left_right.proofs.writer.Writer.TheSendSync.{the_field_send as writer_send}
 use Rattle.logbook.proofs.tokens.Seen.TheSendSync.{the_send as seen_send, the_sync as seen_sync}
 use Rattle.logbook.proofs.word.Word.TheSendSync.{the_send as word_send}
+use Rattle.snapshot_reads.specs.contracts.other.Late as late
+use Rattle.snapshot_reads.specs.contracts.other.Other as other
 use Rattle.snapshot_reads.specs.contracts.snapshot.Snapshot as snapshot
 use Rattle.snapshot_reads.specs.contracts.shown.Shown as shown
 use Rattle.snapshot_reads.specs.contracts.publisher.Publisher as publisher
@@ -105,9 +109,21 @@ shown_send = search (snapshot_send, seen_send, sendable) depth 20
 pub shown_sync : IsSync (shown.the_field).row
 shown_sync = search (snapshot_sync, seen_sync, sendable) depth 20
 
+-- ---- the second copy
+change_send : IsSend (change.the_field).row
+change_send = search (stored_query_send, part_send, plain) depth 20
+
+late_send : IsSend (late.the_field).row
+late_send = search (snapshot_send, change_send, sendable) depth 20
+
+other_send : IsSend (other.the_field).row
+other_send = search (features_send, late_send, sendable) depth 20
+
+-- ---- who publishes, and who views
+
 -- a handle shares its tables, which stand on the heap: so it crosses where what is published may be shared, and the heap may be sent, shared and freed anywhere
 pub viewer_send : IsSend (viewer.the_field).row
 viewer_send = search (reader_send, seen_send, shown_sync, heap_send, heap_sync, heap_frees, option_send, sendable) depth 20
 
 pub publisher_send : IsSend (publisher.the_field).row
-publisher_send = search (writer_send, word_send, seen_send, shown_send, shown_sync, features_send, heap_send, heap_sync, heap_frees, option_send, sendable) depth 20
+publisher_send = search (writer_send, word_send, seen_send, shown_send, shown_sync, other_send, heap_send, heap_sync, heap_frees, option_send, sendable) depth 20

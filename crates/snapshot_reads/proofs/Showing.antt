@@ -1,6 +1,8 @@
 -- What the swaps of a publisher leave.
-use Rattle.std.proofs.Common.{◌≡◌, List, [], ◌∷◌, ◌++◌, length, ◌<◌, ◌≤◌, Result, Ok, Err, MatchResult, ap, arith, le_refl, refl, sym, subst, ◌∙◌}
+use Rattle.std.proofs.Common.{◌≡◌, ◌⊎◌, ⊎_elim, ℕ, zero, suc, List, [], ◌∷◌, ◌++◌, length, drop, ◌<◌, ◌≤◌, Result, Ok, Err, MatchResult, ap, arith, le_refl, refl, sym, subst, ◌∙◌}
+use Rattle.std.proofs.Math.Logic.{∥∥₁_map}
 use Rattle.std.proofs.lemmas.List.Elements.{All-cons, All-nil}
+use Rattle.left_right.specs.Log.{InStep}
 use Rattle.logbook.specs.Pages.{Book}
 use Rattle.logbook.specs.declared.tokens.Seen.{Seen}
 use Rattle.snapshot_reads.specs.declared.book.Law.{Law}
@@ -12,6 +14,27 @@ use Rattle.snapshot_reads.specs.Rules.{pair_of}
 use Rattle.snapshot_reads.specs.Whole.{KnowsOf, MayFollow, Ready, Sound, next_of}
 use Rattle.snapshot_reads.proofs.Fronts.{prefix_get}
 use Rattle.snapshot_reads.proofs.Schemas.{schema_in-append}
+
+-- ---- the spare copy
+
+-- what takes the place of what is published
+abbrev pub applied : Shown → Shown → Shown
+applied before after = after
+
+-- where nothing waits, the spare copy may be what is published
+in_step_self : (x spare : Shown) (log : List Shown) (behind ahead : ℕ) → drop behind log ≡ [] → InStep applied x spare log behind ahead → InStep applied x x log behind ahead
+in_step_self x spare [] zero zero none s = (s.0, s.1, s.2, refl)
+in_step_self x spare [] zero (suc a) none s = absurd (omega (arith, s.1))
+in_step_self x spare [] (suc b) ahead none s = absurd (omega (arith, s.0))
+in_step_self x spare (y ∷ ys) zero ahead none s = absurd (cc none)
+in_step_self x spare (y ∷ ys) (suc b) ahead none s = (s.0, s.1, s.2, s.3)
+
+pub in_step_renewed : (x spare now : Shown) (log : List Shown) (behind ahead : ℕ) → drop behind log ≡ [] → (now ≡ x) ⊎ (now ≡ spare) → ∥ InStep applied x spare log behind ahead ∥₁ → ∥ InStep applied x now log behind ahead ∥₁
+in_step_renewed x spare now log behind ahead none is h =
+    ⊎_elim
+    (λ (same : now ≡ x). subst (λ (z : Shown). ∥ InStep applied x z log behind ahead ∥₁) (sym same) (∥∥₁_map h (in_step_self x spare log behind ahead none)))
+    (λ (same : now ≡ spare). subst (λ (z : Shown). ∥ InStep applied x z log behind ahead ∥₁) (sym same) h)
+    is
 
 -- ---- a swap
 

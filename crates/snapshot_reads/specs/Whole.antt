@@ -1,10 +1,13 @@
 -- What a publisher keeps between two calls.
-use Rattle.std.specs.Prelude.{ℕ, ◌≡◌, ◌≤◌, ◌<◌, List, [], length, Option, Some, None, All}
+use Rattle.std.specs.Prelude.{◌≡◌, ◌≤◌, ◌<◌, List, [], length, Option, Some, None, All}
 use Rattle.std.specs.List.{fold}
 use Rattle.logbook.specs.Pages.{Book}
 use Rattle.snapshot_reads.specs.declared.book.Pair.{Pair}
+use Rattle.snapshot_reads.specs.declared.other.Other.{Other}
+use Rattle.snapshot_reads.specs.declared.other.Other.TheVariants.{Same, Late}
 use Rattle.snapshot_reads.specs.declared.rule.Knows.{Knows}
 use Rattle.snapshot_reads.specs.declared.shown.Shown.{Shown}
+use Rattle.snapshot_reads.specs.Content.{Content, content_of, with_change}
 use Rattle.snapshot_reads.specs.Pairs.{schema_in, Stands}
 use Rattle.snapshot_reads.specs.Rules.{pair_of}
 
@@ -12,6 +15,11 @@ use Rattle.snapshot_reads.specs.Rules.{pair_of}
 abbrev pub of_some : {W X : Type 0} → Option W → X → (W → X) → X
 of_some None x f = x
 of_some (Some w) x f = f w
+
+-- what the second copy comes to, with what it lacks
+abbrev pub content_of_other : Other → Content
+content_of_other (Same f) = content_of f
+content_of_other (Late l) = with_change l.before l.change
 
 -- it knows which history it is
 pub record KnowsOf (v : Knows) (book : Book) : Type 0 where

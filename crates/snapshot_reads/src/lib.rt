@@ -2,6 +2,7 @@
 #![tactic(auto)]
 
 mod book;
+mod other;
 mod playing;
 mod publisher;
 mod rule;

@@ -5,14 +5,13 @@ ghost use Rattle.std.specs.Coded.{codes};
 ghost use Rattle.std.specs.Option.{ForSome};
 ghost use Rattle.fes_filter.specs.contracts.filter.Filter as filter_row;
 ghost use Rattle.left_right.specs.Sides.{view};
-ghost use Rattle.snapshot_reads.specs.Content.{content_of};
 ghost use Rattle.snapshot_reads.specs.Pairs.{head_of};
-ghost use Rattle.snapshot_reads.specs.Whole.{Sound};
+ghost use Rattle.snapshot_reads.specs.Whole.{Sound, content_of_other};
 
 use crate::book::{Law, Pair};
+use crate::other::Other;
 use crate::rule::{Knows, Published};
 use crate::shown::Shown;
-use feature_versions::Features;
 use left_right::writer::Writer;
 use logbook::{Seen, Word};
 use std::alloc::Global;
@@ -27,7 +26,7 @@ pub struct Publisher {
     /// The front that was given last.
     given: u64,
     /// The second copy of what is published. There is none where the publisher is behind.
-    pub other: Option<Features>,
+    pub other: Option<Other>,
     alloc: Global,
     ghost there: { writer ≢ None },
     ghost head_is: { head ≡ head_of seen.book },
@@ -35,6 +34,6 @@ pub struct Publisher {
     ghost long: { length seen.log ≡ given + 1 },
     ghost sound: { ForSome writer (λ w. Sound seen.log seen.book w.desk.shown.value
         (drop w.behind w.log.items) (view w.desk.place)) },
-    ghost alike: { ForSome other (λ f. ForSome writer
-        (λ w. content_of f ≡ w.desk.shown.value.snapshot)) } by { Prim.hlevel (codes, filter_row.the_row.coded) },
+    ghost alike: { ForSome other (λ o. ForSome writer
+        (λ w. content_of_other o ≡ w.desk.shown.value.snapshot)) } by { Prim.hlevel (codes, filter_row.the_row.coded) },
 }

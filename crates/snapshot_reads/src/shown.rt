@@ -1,5 +1,7 @@
 //! What is published.
 
+ghost use Rattle.std.specs.Prelude.{◌≡◌, IfOk};
+
 use crate::book::{Law, Pair};
 use crate::snapshot::Snapshot;
 use left_right::Absorb;
@@ -14,6 +16,19 @@ pub struct Shown {
     pub seen: Seen<Pair, (), Law>,
 }
 
+impl Shown {
+    /// The same. It takes no memory: it is refused only where the count of those that share the features is full.
+    pub(crate) fn again(&self) -> Result<Shown, AllocError>
+        ensures { IfOk result (λ x. x ≡ self.now) }
+    {
+        Ok(Shown {
+            front: self.front,
+            snapshot: self.snapshot.again()?,
+            seen: self.seen.again(),
+        })
+    }
+}
+
 /// An operation on what is published is what takes its place. The features themselves are shared, so it takes no memory.
 impl Absorb<Shown> for Shown {
     type State = Shown;
@@ -23,10 +38,7 @@ impl Absorb<Shown> for Shown {
     ghost applied = { λ x y. y };
 
     fn absorb_first(&mut self, operation: &Shown, _other: &Shown) -> Result<(), AllocError> {
-        let snapshot = operation.snapshot.again()?;
-        self.front = operation.front;
-        self.snapshot = snapshot;
-        self.seen = operation.seen.again();
+        *self = operation.again()?;
         Ok(())
     }
 

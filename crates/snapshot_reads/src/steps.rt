@@ -10,9 +10,10 @@ ghost use Rattle.snapshot_reads.specs.Pairs.{pair, schema_in, Stands};
 ghost use Rattle.snapshot_reads.specs.Publishers.{Follows};
 ghost use Rattle.snapshot_reads.specs.Rules.{pair_of};
 ghost use Rattle.snapshot_reads.specs.Viewers.{IsNew, entered_of};
-ghost use Rattle.snapshot_reads.specs.Whole.{KnowsOf, MayFollow, Ready, Sound, next_of};
+ghost use Rattle.snapshot_reads.specs.Whole.{KnowsOf, MayFollow, Ready, Sound, content_of_other, next_of};
 
 use crate::book::{Law, Pair};
+use crate::other::{Late, Other};
 use crate::playing::changed;
 use crate::rule::{Knows, Notes, Published, Swaps};
 use crate::shown::Shown;
@@ -72,15 +73,55 @@ fn put<R: Wait>(
     }
 }
 
-// Publishes the same once more, so that nothing else is shared.
-fn settle<R: Wait>(rt: &R, writer: Copies, seen: &Seen<Pair, (), Law>) -> Copies
+// The spare copy becomes what is published, unless the count of those that share it is full.
+fn renew(spare: &mut Shown, shown: &Shown)
+    ensures { (spare.new ≡ shown.now) ⊎ (spare.new ≡ spare.old) }
+{
+    if let Ok(shown) = shown.again() {
+        *spare = shown;
+    }
+}
+
+// Waits for those who still read what was published before, and lets go of it.
+fn let_go<R: Wait>(rt: &R, writer: Copies, seen: &Seen<Pair, (), Law>) -> Copies
     requires { Sound seen.now.log seen.now.book writer.desk.shown.value
         (drop writer.behind writer.log.items) (view writer.desk.place) }
     ensures sound { Sound seen.now.log seen.now.book result.desk.shown.value
         (drop result.behind result.log.items) (view result.desk.place) }
     ensures shown { result.desk.shown.value ≡ writer.desk.shown.value }
 {
-    swap(rt, writer)
+    let mut writer = writer;
+    let (open, mut spare) = writer.desk.open(rt);
+    renew(&mut spare, open.shown.get());
+    writer.desk = open.shelve(spare);
+    writer
+}
+
+/// The second copy with the change that it lacks. There is none where one still shares it, or where memory ran out.
+pub(crate) fn catch_up<R: Wait>(
+    rt: &R,
+    writer: Copies,
+    seen: &Seen<Pair, (), Law>,
+    other: Option<Other>,
+) -> (Copies, Option<Features>)
+    requires sound { Sound seen.now.log seen.now.book writer.desk.shown.value
+        (drop writer.behind writer.log.items) (view writer.desk.place) }
+    requires alike { ForSome other (λ o. content_of_other o ≡ writer.desk.shown.value.snapshot) }
+    ensures sound { Sound seen.now.log seen.now.book result.0.desk.shown.value
+        (drop result.0.behind result.0.log.items) (view result.0.desk.place) }
+    ensures shown { result.0.desk.shown.value ≡ writer.desk.shown.value }
+    ensures alike { ForSome result.1 (λ f. content_of f ≡ writer.desk.shown.value.snapshot) }
+    ensures some { IsSome result.1 → IsSome other }
+{
+    match other {
+        None => (writer, None),
+        Some(Other::Same(features)) => (writer, Some(features)),
+        Some(Other::Late(late)) => {
+            // it is kept well
+            let _schema = writer.published().snapshot.features().schema();
+            (let_go(rt, writer, seen), late.caught_up())
+        }
+    }
 }
 
 // ---- the next pair
@@ -92,14 +133,14 @@ fn show_same<R: Wait>(
     seen: &Seen<Pair, (), Law>,
     other: Features,
     front: u64,
-) -> (Copies, Option<Features>)
+) -> (Copies, Option<Other>)
     requires sound { Sound seen.now.log seen.now.book writer.desk.shown.value
         (drop writer.behind writer.log.items) (view writer.desk.place) }
     requires given { Stands seen.now.log (pair front writer.desk.shown.value.snapshot) }
     requires up { writer.desk.shown.value.front ≤ front }
     ensures sound { Sound seen.now.log seen.now.book result.0.desk.shown.value
         (drop result.0.behind result.0.log.items) (view result.0.desk.place) }
-    ensures shown { IfSome result.1 (λ f. (f ≡ other)
+    ensures shown { IfSome result.1 (λ o. (content_of_other o ≡ content_of other)
         × (pair_of result.0.desk.shown.value ≡ pair front writer.desk.shown.value.snapshot)) }
     ensures either { (pair_of result.0.desk.shown.value ≡ pair_of writer.desk.shown.value)
         ⊎ (pair_of result.0.desk.shown.value ≡ pair front writer.desk.shown.value.snapshot) }
@@ -115,10 +156,22 @@ fn show_same<R: Wait>(
     };
     let (writer, done) = put(rt, writer, seen, next);
     if done {
-        (writer, Some(other))
+        (writer, Some(Other::Same(other)))
     } else {
         (writer, None)
     }
+}
+
+// What is published, and a change that it will lack.
+fn late_by(alloc: Global, published: &Snapshot, change: &Change) -> Mem<Late>
+    requires { is_playable published.now.schema published.now.kept change.now ≡ true }
+    ensures before { IfOk result (λ l. l.before ≡ published.now) }
+    ensures change { IfOk result (λ l. l.change ≡ change.now) }
+{
+    Ok(Late {
+        before: published.again()?,
+        change: change.copy(alloc)?,
+    })
 }
 
 // A changed copy of the features, to be shared.
@@ -133,18 +186,7 @@ fn changed_snapshot(alloc: Global, features: Features, change: &Change) -> Mem<S
     Snapshot::of(alloc, changed(alloc, features, change)?)
 }
 
-// The features that nobody shares any more, changed.
-fn caught_up(alloc: Global, before: Snapshot, change: &Change) -> Option<Features>
-    requires playable { is_playable before.schema before.kept change.now ≡ true }
-    requires queries { AreQueriesOf before.schema change.now }
-    ensures { IfSome result (λ f. content_of f
-        ≡ record { schema = before.schema; kept = played_one before.kept change.now }) }
-{
-    let features = before.into_features()?;
-    changed(alloc, features, change).ok()
-}
-
-// A change on each of the two copies: the other one is published with it, and then it goes to the one that was published before.
+// A change on the other copy, which is published. What was published before lacks it from then on.
 fn show_change<R: Wait>(
     rt: &R,
     alloc: Global,
@@ -154,7 +196,7 @@ fn show_change<R: Wait>(
     front: u64,
     change: &Change,
     now: &Features,
-) -> (Copies, Option<Features>)
+) -> (Copies, Option<Other>)
     requires sound { Sound seen.now.log seen.now.book writer.desk.shown.value
         (drop writer.behind writer.log.items) (view writer.desk.place) }
     requires given { Stands seen.now.log (pair front (content_of now.now)) }
@@ -166,12 +208,12 @@ fn show_change<R: Wait>(
     requires change { now.now.kept ≡ played_one other.kept change.now }
     ensures sound { Sound seen.now.log seen.now.book result.0.desk.shown.value
         (drop result.0.behind result.0.log.items) (view result.0.desk.place) }
-    ensures shown { IfSome result.1 (λ f. (content_of f ≡ content_of now.now)
+    ensures shown { IfSome result.1 (λ o. (content_of_other o ≡ content_of now.now)
         × (pair_of result.0.desk.shown.value ≡ pair front (content_of now.now))) }
     ensures either { (pair_of result.0.desk.shown.value ≡ pair_of writer.desk.shown.value)
         ⊎ (pair_of result.0.desk.shown.value ≡ pair front (content_of now.now)) }
 {
-    let Ok(before) = writer.published().snapshot.again() else {
+    let Ok(late) = late_by(alloc, &writer.published().snapshot, change) else {
         return (writer, None);
     };
     let Ok(snapshot) = changed_snapshot(alloc, other, change) else {
@@ -183,10 +225,11 @@ fn show_change<R: Wait>(
         seen: seen.again(),
     };
     let (writer, done) = put(rt, writer, seen, next);
-    if !done {
-        return (writer, None);
+    if done {
+        (writer, Some(Other::Late(late)))
+    } else {
+        (writer, None)
     }
-    (settle(rt, writer, seen), caught_up(alloc, before, change))
 }
 
 // A whole copy of the features, to be shared.
@@ -204,7 +247,7 @@ fn show_whole<R: Wait>(
     seen: &Seen<Pair, (), Law>,
     front: u64,
     now: &Features,
-) -> (Copies, Option<Features>)
+) -> (Copies, Option<Other>)
     requires sound { Sound seen.now.log seen.now.book writer.desk.shown.value
         (drop writer.behind writer.log.items) (view writer.desk.place) }
     requires given { Stands seen.now.log (pair front (content_of now.now)) }
@@ -212,7 +255,7 @@ fn show_whole<R: Wait>(
     requires up { writer.desk.shown.value.front ≤ front }
     ensures sound { Sound seen.now.log seen.now.book result.0.desk.shown.value
         (drop result.0.behind result.0.log.items) (view result.0.desk.place) }
-    ensures shown { IfSome result.1 (λ f. (content_of f ≡ content_of now.now)
+    ensures shown { IfSome result.1 (λ o. (content_of_other o ≡ content_of now.now)
         × (pair_of result.0.desk.shown.value ≡ pair front (content_of now.now))) }
     ensures either { (pair_of result.0.desk.shown.value ≡ pair_of writer.desk.shown.value)
         ⊎ (pair_of result.0.desk.shown.value ≡ pair front (content_of now.now)) }
@@ -229,7 +272,11 @@ fn show_whole<R: Wait>(
     if !done {
         return (writer, None);
     }
-    (settle(rt, writer, seen), now.copy(alloc).ok())
+    let writer = let_go(rt, writer, seen);
+    match now.copy(alloc) {
+        Ok(second) => (writer, Some(Other::Same(second))),
+        Err(_) => (writer, None),
+    }
 }
 
 // Whether it is known of a change that it may be played.
@@ -250,7 +297,7 @@ pub(crate) fn show<R: Wait>(
     front: u64,
     change: Option<&Change>,
     now: &Features,
-) -> (Copies, Option<Features>)
+) -> (Copies, Option<Other>)
     requires sound { Sound seen.now.log seen.now.book writer.desk.shown.value
         (drop writer.behind writer.log.items) (view writer.desk.place) }
     requires given { Stands seen.now.log (pair front (content_of now.now)) }
@@ -261,7 +308,7 @@ pub(crate) fn show<R: Wait>(
         now.now }
     ensures sound { Sound seen.now.log seen.now.book result.0.desk.shown.value
         (drop result.0.behind result.0.log.items) (view result.0.desk.place) }
-    ensures shown { IfSome result.1 (λ f. (content_of f ≡ content_of now.now)
+    ensures shown { IfSome result.1 (λ o. (content_of_other o ≡ content_of now.now)
         × (pair_of result.0.desk.shown.value ≡ pair front (content_of now.now))) }
     ensures either { (pair_of result.0.desk.shown.value ≡ pair_of writer.desk.shown.value)
         ⊎ (pair_of result.0.desk.shown.value ≡ pair front (content_of now.now)) }

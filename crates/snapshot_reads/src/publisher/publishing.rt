@@ -12,9 +12,10 @@ ghost use Rattle.snapshot_reads.specs.Whole.{KnowsOf, Sound};
 
 use super::Publisher;
 use crate::book::{Law, Pair, add, open};
+use crate::other::Other;
 use crate::shown::Shown;
 use crate::snapshot::Snapshot;
-use crate::steps::{Copies, begin, make_viewer, show};
+use crate::steps::{Copies, begin, catch_up, make_viewer, show};
 use crate::viewer::Viewer;
 use feature_versions::Features;
 use logbook::Seen;
@@ -128,7 +129,7 @@ impl Publisher {
             head,
             seen,
             given: 0,
-            other: Some(other),
+            other: Some(Other::Same(other)),
             alloc,
         };
         Ok((publisher, all))
@@ -153,8 +154,8 @@ impl Publisher {
     }
 
     /// Publishes the features at the next front. Where the publisher is not behind, the change goes to each of its two copies, once it is seen that it
-    /// may be played. `OutOfMemory`: memory ran out, so that the publisher is behind; the next call publishes a whole copy. It waits for those who
-    /// still read what was published before.
+    /// may be played: to the one now, to the other in the next call. `OutOfMemory`: memory ran out, so that the publisher is behind; the next call
+    /// publishes a whole copy. It waits for those who still read what the call before took the place of.
     pub fn publish<R: Wait>(
         &mut self,
         rt: &R,
@@ -181,6 +182,7 @@ impl Publisher {
             unreachable!()
         };
         let other = self.other.take();
+        let (writer, other) = catch_up(rt, writer, &self.seen, other);
         let (writer, other) = show(
             rt, self.alloc, writer, &self.seen, other, front, change, now,
         );

@@ -1,4 +1,5 @@
-//! Reads beside a worker that inserts without pause: the count of each answer and its features are of one state, and none is older than the one before.
+//! Reads beside a worker that inserts without pause: how many features match and how many are given is counted in one state for each answer, and none is
+//! older than the one before.
 
 ghost use Rattle.std.specs.Prelude.{◌≡◌, IfOk, length};
 ghost use Rattle.feature_schema.specs.Rules.{KeepsRules};
@@ -20,12 +21,12 @@ const READ: &str =
     "GET /wfs?service=WFS&request=GetFeature&typeNames=m:Mark HTTP/1.1\r\nHost: h\r\n\r\n";
 
 // How often one worker inserts, and the other reads.
-const INSERTIONS: u64 = 40;
+const INSERTIONS: u64 = 80;
 
-const READS: u64 = 60;
+const READS: u64 = 120;
 
 // How many bytes may be written to a link.
-const ROOM: u64 = 1_000_000;
+const ROOM: u64 = 4_000_000;
 
 // A message so many times.
 fn repeated(alloc: Global, message: &str, times: u64) -> Mem<String> {
@@ -129,7 +130,7 @@ fn all_are_of_one_state<R: Threads + Wait + Sync>(rt: &R, alloc: Global) -> Mem<
 }
 
 #[test]
-fn count_and_features_are_of_one_state(rt: HostRuntime) -> Result<(), Fail> {
+fn both_counts_are_of_one_state(rt: HostRuntime) -> Result<(), Fail> {
     assert_eq!(rt; all_are_of_one_state(&rt, rt.alloc()), Ok(true));
     Ok(())
 }
