@@ -1,4 +1,4 @@
--- What the swaps of a publisher leave.
+-- What the swaps of a publisher leave, and what may lie on the spare side.
 use Rattle.std.proofs.Common.{◌≡◌, ◌⊎◌, ⊎_elim, ℕ, zero, suc, List, [], ◌∷◌, ◌++◌, length, drop, ◌<◌, ◌≤◌, Result, Ok, Err, MatchResult, ap, arith, le_refl, refl, sym, subst, ◌∙◌}
 use Rattle.std.proofs.Math.Logic.{∥∥₁_map}
 use Rattle.std.proofs.lemmas.List.Elements.{All-cons, All-nil}
@@ -15,13 +15,13 @@ use Rattle.snapshot_reads.specs.Whole.{KnowsOf, MayFollow, Ready, Sound, next_of
 use Rattle.snapshot_reads.proofs.Fronts.{prefix_get}
 use Rattle.snapshot_reads.proofs.Schemas.{schema_in-append}
 
--- ---- the spare copy
+-- ---- the spare side
 
 -- what takes the place of what is published
 abbrev pub applied : Shown → Shown → Shown
 applied before after = after
 
--- where nothing waits, the spare copy may be what is published
+-- where nothing waits, what is published may lie there
 in_step_self : (x spare : Shown) (log : List Shown) (behind ahead : ℕ) → drop behind log ≡ [] → InStep applied x spare log behind ahead → InStep applied x x log behind ahead
 in_step_self x spare [] zero zero none s = (s.0, s.1, s.2, refl)
 in_step_self x spare [] zero (suc a) none s = absurd (omega (arith, s.1))

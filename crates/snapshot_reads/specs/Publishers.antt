@@ -19,7 +19,7 @@ given_of p = p.seen.log
 abbrev pub shown_of : Publisher → Pair
 shown_of p = of_some p.writer (pair 0 no_content) (λ w. pair_of w.desk.shown.value)
 
--- it has a second copy of what is published, to which the next change goes
+-- it has a second copy of what is published, which may lack the last change, and to which the next one goes
 abbrev pub IsAbreast : Publisher → Type 0
 IsAbreast p = IsSome p.other
 

@@ -16,7 +16,7 @@ abbrev pub of_some : {W X : Type 0} → Option W → X → (W → X) → X
 of_some None x f = x
 of_some (Some w) x f = f w
 
--- what the second copy comes to, with what it lacks
+-- what the second copy comes to, with the change that it may lack
 abbrev pub content_of_other : Other → Content
 content_of_other (Same f) = content_of f
 content_of_other (Late l) = with_change l.before l.change

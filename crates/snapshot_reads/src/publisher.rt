@@ -25,8 +25,8 @@ pub struct Publisher {
     pub seen: Seen<Pair, (), Law>,
     /// The front that was given last.
     given: u64,
-    /// The second copy of what is published. There is none where the publisher is behind.
-    pub other: Option<Other>,
+    /// The second copy of what is published, which may lack the last change. There is none where the publisher is behind.
+    other: Option<Other>,
     alloc: Global,
     ghost there: { writer ≢ None },
     ghost head_is: { head ≡ head_of seen.book },

@@ -5,11 +5,11 @@ ghost use Rattle.std.specs.Option.{ForSome, option_copied};
 ghost use Rattle.left_right.specs.Sides.{view};
 ghost use Rattle.wfs_model.specs.Playable.{is_playable, AreQueriesOf};
 ghost use Rattle.wfs_model.specs.Played.{played_one};
-ghost use Rattle.snapshot_reads.specs.Content.{content_of};
+ghost use Rattle.snapshot_reads.specs.Content.{content_of, with_change};
 ghost use Rattle.snapshot_reads.specs.Pairs.{pair, schema_in, Stands};
 ghost use Rattle.snapshot_reads.specs.Publishers.{Follows};
 ghost use Rattle.snapshot_reads.specs.Rules.{pair_of};
-ghost use Rattle.snapshot_reads.specs.Viewers.{IsNew, entered_of};
+ghost use Rattle.snapshot_reads.specs.Viewers.{IsNew};
 ghost use Rattle.snapshot_reads.specs.Whole.{KnowsOf, MayFollow, Ready, Sound, content_of_other, next_of};
 
 use crate::book::{Law, Pair};
@@ -73,7 +73,9 @@ fn put<R: Wait>(
     }
 }
 
-// The spare copy becomes what is published, unless the count of those that share it is full.
+// ---- the older copy
+
+// The spare side takes what is published, unless the count of those that share it is full.
 fn renew(spare: &mut Shown, shown: &Shown)
     ensures { (spare.new ≡ shown.now) ⊎ (spare.new ≡ spare.old) }
 {
@@ -83,40 +85,37 @@ fn renew(spare: &mut Shown, shown: &Shown)
 }
 
 // Waits for those who still read what was published before, and lets go of it.
-fn let_go<R: Wait>(rt: &R, writer: Copies, seen: &Seen<Pair, (), Law>) -> Copies
+fn let_go<R: Wait>(rt: &R, mut writer: Copies, seen: &Seen<Pair, (), Law>) -> Copies
     requires { Sound seen.now.log seen.now.book writer.desk.shown.value
         (drop writer.behind writer.log.items) (view writer.desk.place) }
     ensures sound { Sound seen.now.log seen.now.book result.desk.shown.value
         (drop result.behind result.log.items) (view result.desk.place) }
     ensures shown { result.desk.shown.value ≡ writer.desk.shown.value }
 {
-    let mut writer = writer;
     let (open, mut spare) = writer.desk.open(rt);
     renew(&mut spare, open.shown.get());
     writer.desk = open.shelve(spare);
     writer
 }
 
-/// The second copy with the change that it lacks. There is none where one still shares it, or where memory ran out.
-pub(crate) fn catch_up<R: Wait>(
+// The second copy with the change that it may lack. There is none where somebody still shares it, or where memory ran out.
+fn catch_up<R: Wait>(
     rt: &R,
     writer: Copies,
     seen: &Seen<Pair, (), Law>,
-    other: Option<Other>,
+    other: Other,
 ) -> (Copies, Option<Features>)
     requires sound { Sound seen.now.log seen.now.book writer.desk.shown.value
         (drop writer.behind writer.log.items) (view writer.desk.place) }
-    requires alike { ForSome other (λ o. content_of_other o ≡ writer.desk.shown.value.snapshot) }
+    requires alike { content_of_other other ≡ writer.desk.shown.value.snapshot }
     ensures sound { Sound seen.now.log seen.now.book result.0.desk.shown.value
         (drop result.0.behind result.0.log.items) (view result.0.desk.place) }
     ensures shown { result.0.desk.shown.value ≡ writer.desk.shown.value }
     ensures alike { ForSome result.1 (λ f. content_of f ≡ writer.desk.shown.value.snapshot) }
-    ensures some { IsSome result.1 → IsSome other }
 {
     match other {
-        None => (writer, None),
-        Some(Other::Same(features)) => (writer, Some(features)),
-        Some(Other::Late(late)) => {
+        Other::Same(features) => (writer, Some(features)),
+        Other::Late(late) => {
             // it is kept well
             let _schema = writer.published().snapshot.features().schema();
             (let_go(rt, writer, seen), late.caught_up())
@@ -131,7 +130,7 @@ fn show_same<R: Wait>(
     rt: &R,
     writer: Copies,
     seen: &Seen<Pair, (), Law>,
-    other: Features,
+    other: Other,
     front: u64,
 ) -> (Copies, Option<Other>)
     requires sound { Sound seen.now.log seen.now.book writer.desk.shown.value
@@ -140,7 +139,7 @@ fn show_same<R: Wait>(
     requires up { writer.desk.shown.value.front ≤ front }
     ensures sound { Sound seen.now.log seen.now.book result.0.desk.shown.value
         (drop result.0.behind result.0.log.items) (view result.0.desk.place) }
-    ensures shown { IfSome result.1 (λ o. (content_of_other o ≡ content_of other)
+    ensures shown { IfSome result.1 (λ o. (o ≡ other)
         × (pair_of result.0.desk.shown.value ≡ pair front writer.desk.shown.value.snapshot)) }
     ensures either { (pair_of result.0.desk.shown.value ≡ pair_of writer.desk.shown.value)
         ⊎ (pair_of result.0.desk.shown.value ≡ pair front writer.desk.shown.value.snapshot) }
@@ -156,34 +155,19 @@ fn show_same<R: Wait>(
     };
     let (writer, done) = put(rt, writer, seen, next);
     if done {
-        (writer, Some(Other::Same(other)))
+        (writer, Some(other))
     } else {
         (writer, None)
     }
-}
-
-// What is published, and a change that it will lack.
-fn late_by(alloc: Global, published: &Snapshot, change: &Change) -> Mem<Late>
-    requires { is_playable published.now.schema published.now.kept change.now ≡ true }
-    ensures before { IfOk result (λ l. l.before ≡ published.now) }
-    ensures change { IfOk result (λ l. l.change ≡ change.now) }
-{
-    Ok(Late {
-        before: published.again()?,
-        change: change.copy(alloc)?,
-    })
 }
 
 // A changed copy of the features, to be shared.
 fn changed_snapshot(alloc: Global, features: Features, change: &Change) -> Mem<Snapshot>
     requires playable { is_playable features.schema features.kept change.now ≡ true }
     requires queries { AreQueriesOf features.schema change.now }
-    ensures { IfOk result (λ s. s ≡ record {
-      schema = features.schema;
-      kept = played_one features.kept change.now;
-    }) }
+    ensures { IfOk result (λ s. s ≡ with_change (content_of features) change.now) }
 {
-    Snapshot::of(alloc, changed(alloc, features, change)?)
+    Snapshot::of(alloc, changed(features, change.copy(alloc)?)?)
 }
 
 // A change on the other copy, which is published. What was published before lacks it from then on.
@@ -213,7 +197,7 @@ fn show_change<R: Wait>(
     ensures either { (pair_of result.0.desk.shown.value ≡ pair_of writer.desk.shown.value)
         ⊎ (pair_of result.0.desk.shown.value ≡ pair front (content_of now.now)) }
 {
-    let Ok(late) = late_by(alloc, &writer.published().snapshot, change) else {
+    let Ok(late) = Late::of(alloc, &writer.published().snapshot, change) else {
         return (writer, None);
     };
     let Ok(snapshot) = changed_snapshot(alloc, other, change) else {
@@ -239,7 +223,7 @@ fn whole_snapshot(alloc: Global, now: &Features) -> Mem<Snapshot>
     Snapshot::of(alloc, now.copy(alloc)?)
 }
 
-// Two whole copies, the second once the first is published and what was published before is gone.
+// Two whole copies, the second once the first is published and what was published before is gone: it waits for those who read that.
 fn show_whole<R: Wait>(
     rt: &R,
     alloc: Global,
@@ -286,14 +270,14 @@ fn may_play(alloc: Global, features: &Features, change: &Change) -> bool
     matches!(features.accepts(alloc, change), Ok(true))
 }
 
-/// Publishes a pair: by its change where there is another copy of what is published on which it may be played, else by whole copies. The other copy
-/// comes back where all went well.
+/// Publishes a pair: by its change where there is another copy of what is published on which it may be played, else by whole copies. The other copy,
+/// which may lack the change, comes back where all went well.
 pub(crate) fn show<R: Wait>(
     rt: &R,
     alloc: Global,
     writer: Copies,
     seen: &Seen<Pair, (), Law>,
-    other: Option<Features>,
+    other: Option<Other>,
     front: u64,
     change: Option<&Change>,
     now: &Features,
@@ -303,7 +287,7 @@ pub(crate) fn show<R: Wait>(
     requires given { Stands seen.now.log (pair front (content_of now.now)) }
     requires schema { now.now.schema ≡ schema_in seen.now.log }
     requires up { writer.desk.shown.value.front ≤ front }
-    requires alike { ForSome other (λ f. content_of f ≡ writer.desk.shown.value.snapshot) }
+    requires alike { ForSome other (λ o. content_of_other o ≡ writer.desk.shown.value.snapshot) }
     requires change { IsSome other → Follows (option_copied change) writer.desk.shown.value.snapshot
         now.now }
     ensures sound { Sound seen.now.log seen.now.book result.0.desk.shown.value
@@ -318,15 +302,17 @@ pub(crate) fn show<R: Wait>(
     };
     // it is kept well
     let _schema = now.schema();
-    match change {
-        None => show_same(rt, writer, seen, other, front),
-        Some(change) => {
-            if may_play(alloc, &other, change) {
-                show_change(rt, alloc, writer, seen, other, front, change, now)
-            } else {
-                show_whole(rt, alloc, writer, seen, front, now)
-            }
-        }
+    let Some(change) = change else {
+        return show_same(rt, writer, seen, other, front);
+    };
+    let (writer, caught) = catch_up(rt, writer, seen, other);
+    let Some(features) = caught else {
+        return show_whole(rt, alloc, writer, seen, front, now);
+    };
+    if may_play(alloc, &features, change) {
+        show_change(rt, alloc, writer, seen, features, front, change, now)
+    } else {
+        show_whole(rt, alloc, writer, seen, front, now)
     }
 }
 

@@ -15,7 +15,7 @@ use crate::book::{Law, Pair, add, open};
 use crate::other::Other;
 use crate::shown::Shown;
 use crate::snapshot::Snapshot;
-use crate::steps::{Copies, begin, catch_up, make_viewer, show};
+use crate::steps::{Copies, begin, make_viewer, show};
 use crate::viewer::Viewer;
 use feature_versions::Features;
 use logbook::Seen;
@@ -24,21 +24,6 @@ use std::mem;
 use std::sync::Wait;
 use wfs_ends::{Mem, OutOfMemory};
 use wfs_model::Change;
-
-// What is published first.
-fn first_shown(seen: &Seen<Pair, (), Law>, snapshot: &Snapshot) -> Mem<Shown>
-    ensures { IfOk result (λ x. x ≡ record {
-      front = 0;
-      snapshot = snapshot.now;
-      seen = seen.now;
-    }) }
-{
-    Ok(Shown {
-        front: 0,
-        snapshot: snapshot.again()?,
-        seen: seen.again(),
-    })
-}
 
 // Makes one viewer more, for which there is room.
 fn push_viewer(writer: &mut Copies, seen: &Seen<Pair, (), Law>, viewers: &mut Vec<Option<Viewer>>)
@@ -96,10 +81,12 @@ fn first_copies<R: Wait>(
     ensures shown { IfOk result (λ w. pair_of w.desk.shown.value
         ≡ pair 0 (content_of features.now)) }
 {
-    let snapshot = Snapshot::of(alloc, features.copy(alloc)?)?;
-    let first = first_shown(seen, &snapshot)?;
-    let second = first_shown(seen, &snapshot)?;
-    drop(snapshot);
+    let first = Shown {
+        front: 0,
+        snapshot: Snapshot::of(alloc, features.copy(alloc)?)?,
+        seen: seen.again(),
+    };
+    let second = first.again()?;
     begin(rt, alloc, first, second, viewers)
 }
 
@@ -153,9 +140,10 @@ impl Publisher {
         self.other.is_none()
     }
 
-    /// Publishes the features at the next front. Where the publisher is not behind, the change goes to each of its two copies, once it is seen that it
-    /// may be played: to the one now, to the other in the next call. `OutOfMemory`: memory ran out, so that the publisher is behind; the next call
-    /// publishes a whole copy. It waits for those who still read what the call before took the place of.
+    /// Publishes the features at the next front. Where the publisher is not behind, the change is played, once it is seen that it may be, on the copy
+    /// that is not published, and on the other in a later call. Where it may not be played, or there is no memory for the change before it, whole
+    /// copies are published, as where the publisher is behind. `OutOfMemory`: memory ran out, so that the publisher is behind. It waits for those
+    /// who were reading as the last swap was made and are still in that read; where it publishes whole copies, for those too who read as it swaps.
     pub fn publish<R: Wait>(
         &mut self,
         rt: &R,
@@ -182,7 +170,6 @@ impl Publisher {
             unreachable!()
         };
         let other = self.other.take();
-        let (writer, other) = catch_up(rt, writer, &self.seen, other);
         let (writer, other) = show(
             rt, self.alloc, writer, &self.seen, other, front, change, now,
         );

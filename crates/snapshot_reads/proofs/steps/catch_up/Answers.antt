@@ -8,19 +8,19 @@ use Rattle.snapshot_reads.proofs.steps.catch_up.Goals as goal
 
 pub caught_up-requires : goal.caught_up-requires
 caught_up-requires g c =
-    let late = c.in-Some-Late.late in
+    let late = c.in-Late.late in
     let shown = c.args.writer.desk.shown.value.snapshot in
-    let is : with_change late.before late.change ≡ shown = ap content_of_other (sym c.in-Some-Late.field-0-is) ∙ c.requires.alike c.in-Some-Late.field-0 c.in-Some-Late.is in
+    let is : with_change late.before late.change ≡ shown = ap content_of_other (sym c.in-Late.is) ∙ c.requires.alike in
     let at : content_of c.features.result.now ≡ shown = c.features.ensures ∙ (λ i. (c.published.ensures i).snapshot) in
     asks_late late.before shown late.change is (subst (λ (k : Content). IsKept k.schema k.kept) at c.schema-schema.ensures.kept)
 
-pub returns-in-Some-Same-clause-alike : goal.returns-in-Some-Same-clause-alike
-returns-in-Some-Same-clause-alike g c x is =
-    let same : c.in-Some-Same.features ≡ x = cc is in
-    ap content_of (sym same) ∙ (ap content_of_other (sym c.in-Some-Same.field-0-is) ∙ c.requires.alike c.in-Some-Same.field-0 c.in-Some-Same.is)
+pub returns-in-Same-clause-alike : goal.returns-in-Same-clause-alike
+returns-in-Same-clause-alike g c x is =
+    let same : c.in-Same.features ≡ x = cc is in
+    ap content_of (sym same) ∙ (ap content_of_other (sym c.in-Same.is) ∙ c.requires.alike)
 
-pub returns-in-Some-Late-clause-alike : goal.returns-in-Some-Late-clause-alike
-returns-in-Some-Late-clause-alike g c x is =
-    let late = c.in-Some-Late.late in
+pub returns-in-Late-clause-alike : goal.returns-in-Late-clause-alike
+returns-in-Late-clause-alike g c x is =
+    let late = c.in-Late.late in
     let made : content_of x ≡ with_change late.before late.change = subst (λ (o : Option Holding). IfSome o (λ f. content_of f ≡ with_change late.before late.change)) is c.caught_up.ensures in
-    made ∙ (ap content_of_other (sym c.in-Some-Late.field-0-is) ∙ c.requires.alike c.in-Some-Late.field-0 c.in-Some-Late.is)
+    made ∙ (ap content_of_other (sym c.in-Late.is) ∙ c.requires.alike)

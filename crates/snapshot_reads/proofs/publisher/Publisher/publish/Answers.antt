@@ -1,7 +1,6 @@
-use Rattle.std.proofs.Common.{◌∙◌, sym, ap, arith, drop, ◌∷◌, [], ◌<◌, length}
+use Rattle.std.proofs.Common.{◌∙◌, sym, arith, drop, ◌∷◌, [], ◌<◌, length}
 use Rattle.std.proofs.lemmas.Option.{slice_get_within}
 use Rattle.left_right.specs.Sides.{view}
-use Rattle.snapshot_reads.specs.declared.shown.Shown.{Shown}
 use Rattle.snapshot_reads.specs.Content.{content_of}
 use Rattle.snapshot_reads.specs.Pairs.{pair}
 use Rattle.snapshot_reads.specs.Rules.{pair_of}
@@ -9,8 +8,8 @@ use Rattle.snapshot_reads.proofs.Fronts.{last_get}
 use Rattle.snapshot_reads.proofs.Showing.{sound_more}
 use Rattle.snapshot_reads.proofs.publisher.Publisher.publish.Goals as goal
 
-pub catch_up-writer-requires-clause-sound : goal.catch_up-writer-requires-clause-sound
-catch_up-writer-requires-clause-sound g c =
+pub show-writer-requires-clause-sound : goal.show-writer-requires-clause-sound
+show-writer-requires-clause-sound g c =
     let writer = c.in-Some.writer in
     let sound = c.args.self.now.sound writer (sym c.in-Some.ensures.value) in
     let some : 0 < length c.args.self.now.seen.log = omega (arith, c.args.self.now.long) in
@@ -24,7 +23,7 @@ pub show-writer-requires-clause-up : goal.show-writer-requires-clause-up
 show-writer-requires-clause-up g c =
     let writer = c.in-Some.writer in
     let sound = c.args.self.now.sound writer (sym c.in-Some.ensures.value) in
-    omega (arith, c.requires.next, ap (λ (x : Shown). x.front) c.catch_up-writer.ensures.shown, slice_get_within c.args.self.now.seen.log writer.desk.shown.value.front (pair_of writer.desk.shown.value) sound.ready.given)
+    omega (arith, c.requires.next, slice_get_within c.args.self.now.seen.log writer.desk.shown.value.front (pair_of writer.desk.shown.value) sound.ready.given)
 
-pub catch_up-writer-requires-clause-alike : goal.catch_up-writer-requires-clause-alike
-catch_up-writer-requires-clause-alike g c other is = c.args.self.now.alike other (sym c.take-other.ensures.value ∙ is) c.in-Some.writer (sym c.in-Some.ensures.value)
+pub show-writer-requires-clause-alike : goal.show-writer-requires-clause-alike
+show-writer-requires-clause-alike g c other is = c.args.self.now.alike other (sym c.take-other.ensures.value ∙ is) c.in-Some.writer (sym c.in-Some.ensures.value)
