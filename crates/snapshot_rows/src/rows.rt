@@ -71,7 +71,22 @@ fn play<R: Wait>(
     )
 }
 
-// What a viewer finds before a mark comes, after it, after another, and once it was told a front that is not there yet.
+// Publishes the same features at the next front: whether that was done.
+fn pass<R: Wait>(rt: &R, publisher: &mut Publisher, features: &Features, front: u64) -> bool
+    requires next { front ≡ length (given_of publisher.old) }
+    requires schema { features.now.schema ≡ schema_in (given_of publisher.old) }
+    requires alike { IsAbreast publisher.old → content_of features.now
+        ≡ (shown_of publisher.old).content }
+    ensures given { given_of publisher.new ≡ given_of publisher.old
+        ++ pair front (content_of features.now) ∷ [] }
+    ensures alike { IsAbreast publisher.new → content_of features.now
+        ≡ (shown_of publisher.new).content }
+{
+    publisher.publish(rt, front, None, features).is_ok()
+}
+
+// What a viewer finds before a mark comes, after it, at a front without a change, after another mark, and once it was told a front that is not there
+// yet.
 fn told<R: Wait>(
     rt: &R,
     alloc: Global,
@@ -79,7 +94,7 @@ fn told<R: Wait>(
     viewer: &mut Viewer,
     features: &mut Features,
     request: &Request,
-) -> Mem<[Found; 4]>
+) -> Mem<[Found; 5]>
     requires next { length (given_of publisher.old) ≡ 1 }
     requires schema { features.old.schema ≡ schema_in (given_of publisher.old) }
     requires alike { IsAbreast publisher.old → content_of features.old
@@ -91,13 +106,17 @@ fn told<R: Wait>(
         return Err(OutOfMemory);
     }
     let after = look(alloc, viewer, request)?;
-    if !play(rt, alloc, publisher, features, 2, insert(alloc, 2)?)? {
+    if !pass(rt, publisher, features, 2) {
+        return Err(OutOfMemory);
+    }
+    let same = look(alloc, viewer, request)?;
+    if !play(rt, alloc, publisher, features, 3, insert(alloc, 2)?)? {
         return Err(OutOfMemory);
     }
     let both = look(alloc, viewer, request)?;
-    viewer.tell(3);
+    viewer.tell(4);
     let behind = look(alloc, viewer, request)?;
-    Ok([before, after, both, behind])
+    Ok([before, after, same, both, behind])
 }
 
 // The same by the last of these viewers.
@@ -107,7 +126,7 @@ fn told_to_last<R: Wait>(
     publisher: &mut Publisher,
     viewers: Vec<Option<Viewer>>,
     features: &mut Features,
-) -> Mem<[Found; 4]>
+) -> Mem<[Found; 5]>
     requires next { length (given_of publisher.old) ≡ 1 }
     requires schema { features.old.schema ≡ schema_in (given_of publisher.old) }
     requires alike { IsAbreast publisher.old → content_of features.old
@@ -121,14 +140,14 @@ fn told_to_last<R: Wait>(
     }
 }
 
-fn all_told<R: Wait>(rt: &R, alloc: Global, features: &mut Features) -> Mem<[Found; 4]> {
+fn all_told<R: Wait>(rt: &R, alloc: Global, features: &mut Features) -> Mem<[Found; 5]> {
     let (mut publisher, viewers) = Publisher::new(rt, alloc, features, 1)?;
     let all = told_to_last(rt, alloc, &mut publisher, viewers, features);
     publisher.end(rt);
     all
 }
 
-fn told_of_marks<R: Wait>(rt: &R, alloc: Global) -> Mem<[Found; 4]> {
+fn told_of_marks<R: Wait>(rt: &R, alloc: Global) -> Mem<[Found; 5]> {
     let schema = schema(alloc)?;
     let mut features = Features::new(alloc, &schema)?;
     all_told(rt, alloc, &mut features)
@@ -142,8 +161,9 @@ fn each_mark_is_found_once_it_is_published(rt: HostRuntime) -> Result<(), Fail> 
         Ok([
             Found::Marks(0, 0),
             Found::Marks(1, 1),
-            Found::Marks(2, 2),
-            Found::Behind(2)
+            Found::Marks(1, 2),
+            Found::Marks(2, 3),
+            Found::Behind(3)
         ])
     );
     Ok(())
