@@ -1,6 +1,6 @@
 //! Marks that are published and counted. What is expected was worked out by hand.
 
-ghost use Rattle.std.specs.Prelude.{◌≡◌, ◌++◌, ◌∷◌, [], OnOk, length};
+ghost use Rattle.std.specs.Prelude.{◌≡◌, ◌<◌, ◌++◌, ◌∷◌, [], OnOk, length};
 ghost use Rattle.wfs_model.specs.Changing.{IsChange};
 ghost use Rattle.wfs_model.specs.Playable.{AreQueriesOf};
 ghost use Rattle.snapshot_reads.specs.Content.{content_of};
@@ -74,11 +74,13 @@ fn play<R: Wait>(
 // Publishes the same features at the next front: whether that was done.
 fn pass<R: Wait>(rt: &R, publisher: &mut Publisher, features: &Features, front: u64) -> bool
     requires next { front ≡ length (given_of publisher.old) }
+    requires some { 0 < length (given_of publisher.old) }
     requires schema { features.now.schema ≡ schema_in (given_of publisher.old) }
     requires alike { IsAbreast publisher.old → content_of features.now
         ≡ (shown_of publisher.old).content }
     ensures given { given_of publisher.new ≡ given_of publisher.old
         ++ pair front (content_of features.now) ∷ [] }
+    ensures schema { features.now.schema ≡ schema_in (given_of publisher.new) }
     ensures alike { IsAbreast publisher.new → content_of features.now
         ≡ (shown_of publisher.new).content }
 {
