@@ -21,10 +21,10 @@ use wfs_store::Store;
 const ALL: &[u8] = b"\x01\0\x40\x4c\x05\x02\0\0\x04\0";
 
 // The same with 949 fields, of which the last one's name has 1,142 letters: 5 + 948 x 4,115 + 1,161 = 3,902,186 (3b8aea). 3,902,191 bytes.
-const LONGER: (&[u8], u32) = (b"\x01\0\x3b\x8a\xea\x02\0\0\x03\xb5", 1_142);
+const LONGER: (&[u8], usize) = (b"\x01\0\x3b\x8a\xea\x02\0\0\x03\xb5", 1_142);
 
 // And with a letter less (3b8ae9): 3,902,190 bytes.
-const LONGEST_KEPT: (&[u8], u32) = (b"\x01\0\x3b\x8a\xe9\x02\0\0\x03\xb5", 1_141);
+const LONGEST_KEPT: (&[u8], usize) = (b"\x01\0\x3b\x8a\xe9\x02\0\0\x03\xb5", 1_141);
 
 // The same with 1,000 fields, as a checkpoint has them: 5 + 1,000 x 4,115 = 4,115,005 (3eca3d). 4,115,010 bytes.
 const THOUSAND: &[u8] = b"\x01\0\x3e\xca\x3d\x02\0\0\x03\xe8";
@@ -38,46 +38,50 @@ const BASE: &[u8] =
     b"\x01\0\0\0\x23\x05\0\0\0\0\0\0\0\x01\0\x03\0\0\0\0\0\0\0\0\0\0\0\0\0\0\x04\0\0\0\0\0\0\0\0\0";
 
 // How many letters the longest name has.
-const LONGEST: u32 = 4_096;
+const LONGEST: usize = 4_096;
 
-// A part that puts a field with a name of so many letters: 1, the type 1 in 2 bytes, its number in 8, two values in 2; a text, 1 and its
-// length in 4 bytes, and null. 19 bytes and the name, 4,115 with the longest.
-fn put_field(bytes: &mut Vec<u8>, number: u64, letters: u32) -> Mem<()> {
+// A part that puts a field of this name: 1, the type 1 in 2 bytes, its number in 8, two values in 2; a text, 1 and its length in 4 bytes,
+// and null. 19 bytes and the name, 4,115 with the longest.
+fn put_field(bytes: &mut Vec<u8>, number: u64, name: &[u8]) -> Mem<()> {
     bytes.extend_from_slice(b"\x01\0\x01")?;
     bytes.extend_from_slice(&number.to_be_bytes())?;
     bytes.extend_from_slice(b"\0\x02\x01")?;
-    bytes.extend_from_slice(&letters.to_be_bytes())?;
-    for _ in 0..letters {
-        bytes.push(b'n')?;
-    }
+    bytes.extend_from_slice(&(name.len() as u32).to_be_bytes())?;
+    bytes.extend_from_slice(name)?;
     bytes.push(0)?;
     Ok(())
 }
 
 // The record that begins so, and puts the fields from one number up to, and without, another.
-fn put_fields(bytes: &mut Vec<u8>, head: &[u8], from: u64, to: u64) -> Mem<()> {
+fn put_fields(bytes: &mut Vec<u8>, head: &[u8], from: u64, to: u64, name: &[u8]) -> Mem<()> {
     bytes.extend_from_slice(head)?;
     for number in from..to {
-        put_field(bytes, number, LONGEST)?;
+        put_field(bytes, number, name)?;
     }
     Ok(())
+}
+
+fn letters(alloc: Global, count: usize) -> Mem<Vec<u8>> {
+    Ok(vec![in alloc; b'n'; count]?)
 }
 
 // ---- sides
 
 // A record between others, which puts the fields up to one whose name has so many letters.
-fn put_shorter(bytes: &mut Vec<u8>, shorter: (&[u8], u32)) -> Mem<()> {
-    put_fields(bytes, shorter.0, 1, 949)?;
-    put_field(bytes, 949, shorter.1)
+fn put_shorter(alloc: Global, bytes: &mut Vec<u8>, shorter: (&[u8], usize), name: &[u8]) -> Mem<()> {
+    put_fields(bytes, shorter.0, 1, 949, name)?;
+    let last = letters(alloc, shorter.1)?;
+    put_field(bytes, 949, &last)
 }
 
 // The first opening, and 15 times all fields, with that record behind the first time: 16 + 107 + 15 x 4,213,770 + 1 = 63,206,674 bytes and
 // the record.
-fn long_side(alloc: Global, shorter: (&[u8], u32)) -> Mem<Vec<u8>> {
+fn long_side(alloc: Global, shorter: (&[u8], usize)) -> Mem<Vec<u8>> {
+    let name = letters(alloc, LONGEST)?;
     let mut record = Vec::new(alloc);
-    put_fields(&mut record, ALL, 1, 1_025)?;
+    put_fields(&mut record, ALL, 1, 1_025, &name)?;
     let mut bytes = joined(alloc, &[HEAD_1, OPENING_1, &record])?;
-    put_shorter(&mut bytes, shorter)?;
+    put_shorter(alloc, &mut bytes, shorter, &name)?;
     for _ in 0..14 {
         bytes.extend_from_slice(&record)?;
     }
@@ -87,9 +91,10 @@ fn long_side(alloc: Global, shorter: (&[u8], u32)) -> Mem<Vec<u8>> {
 
 // The checkpoint, and the second opening behind it: 16 + 40 + 4,115,010 + 98,770 + 107 + 1 = 4,213,944 bytes.
 fn short_side(alloc: Global) -> Mem<Vec<u8>> {
+    let name = letters(alloc, LONGEST)?;
     let mut bytes = joined(alloc, &[HEAD_2, BASE])?;
-    put_fields(&mut bytes, THOUSAND, 1, 1_001)?;
-    put_fields(&mut bytes, OTHERS, 1_001, 1_025)?;
+    put_fields(&mut bytes, THOUSAND, 1, 1_001, &name)?;
+    put_fields(&mut bytes, OTHERS, 1_001, 1_025, &name)?;
     bytes.extend_from_slice(OPENING_2)?;
     bytes.extend_from_slice(CLOSED)?;
     Ok(bytes)
@@ -99,7 +104,7 @@ fn disk(alloc: Global, bytes: Vec<u8>) -> Mem<MemDisk> {
     MemDisk::new(alloc, bytes, 5_000, 5_000_000, Vec::new(alloc), None)
 }
 
-fn disks(alloc: Global, shorter: (&[u8], u32)) -> Mem<Pair<MemDisk>> {
+fn disks(alloc: Global, shorter: (&[u8], usize)) -> Mem<Pair<MemDisk>> {
     Ok(Pair {
         a: disk(alloc, long_side(alloc, shorter)?)?,
         b: disk(alloc, Vec::new(alloc))?,
