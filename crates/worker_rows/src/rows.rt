@@ -57,6 +57,9 @@ const TWO_MATCHED: &str =
 // How many times a gate looks before it gives up.
 const LOOKS: u32 = 1_000_000_000;
 
+// How many times a worker looks that stays in its turn: for longer than a thread takes to begin, so that another one comes to want it.
+const STAY: u32 = 50_000_000;
+
 // What gates tell each other. The last says that one gave up.
 #[derive(Drop)]
 struct Signals {
@@ -74,7 +77,7 @@ fn no_signals() -> Signals {
 }
 
 // Who is at a gate.
-#[derive(Clone, Copy, PartialEq, Eq)]
+#[derive(Clone, Copy)]
 enum Role {
     // Nobody is held.
     Free,
@@ -84,6 +87,8 @@ enum Role {
     Reads,
     // Tells, in its turn of this number, counted from 0, that it is there, and is held in it until the other has its second answer.
     Holds(u64),
+    // Stays in each turn for a while.
+    Stays,
 }
 
 // The gate of a worker, with how many answers and turns it has had.
@@ -106,6 +111,15 @@ fn wait_for(signal: &AtomicU64, late: &AtomicU64) {
     late.store(1, Ordering::SeqCst);
 }
 
+// Looks for a signal for a while.
+fn stay(signal: &AtomicU64) {
+    for _ in 0..STAY {
+        if signal.load(Ordering::SeqCst) == 1 {
+            return;
+        }
+    }
+}
+
 // What a worker does before an answer, which is its first, or a later one.
 fn meet(signals: &Signals, role: Role, is_first: bool) {
     match role {
@@ -115,15 +129,19 @@ fn meet(signals: &Signals, role: Role, is_first: bool) {
         }
         Role::Reads if is_first => wait_for(&signals.first, &signals.late),
         Role::Reads => signals.second.store(1, Ordering::SeqCst),
-        Role::Free | Role::Holds(_) => {}
+        Role::Free | Role::Holds(_) | Role::Stays => {}
     }
 }
 
 // What a worker does in a turn.
 fn hold(signals: &Signals, role: Role, turn: u64) {
-    if role == Role::Holds(turn) {
-        signals.first.store(1, Ordering::SeqCst);
-        wait_for(&signals.second, &signals.late);
+    match role {
+        Role::Holds(number) if number == turn => {
+            signals.first.store(1, Ordering::SeqCst);
+            wait_for(&signals.second, &signals.late);
+        }
+        Role::Stays => stay(&signals.second),
+        _ => {}
     }
 }
 
@@ -337,7 +355,8 @@ fn files_if(run: Run<'_>) -> Option<Pair<MemDisk>> {
     None
 }
 
-// The files on which two workers have inserted a mark each.
+// The files on which two workers have inserted a mark each. Nobody gives the signal for which each of them looks in its turn, so the one that
+// comes first stays in it until the other one wants it.
 fn insert_both<R: Threads + Wait + Sync>(
     rt: &R,
     alloc: Global,
@@ -346,7 +365,7 @@ fn insert_both<R: Threads + Wait + Sync>(
 ) -> Mem<Option<Pair<MemDisk>>>
     requires { KeepsRules schema.now }
 {
-    let slots = two_slots(alloc, signals, (Role::Free, INSERT), (Role::Free, INSERT))?;
+    let slots = two_slots(alloc, signals, (Role::Stays, INSERT), (Role::Stays, INSERT))?;
     let disks = no_files(alloc, &[])?;
     Ok(match serve_on(rt, alloc, schema, disks, slots, None)? {
         Some(run) => files_if(run),
