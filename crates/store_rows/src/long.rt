@@ -68,7 +68,12 @@ fn letters(alloc: Global, count: usize) -> Mem<Vec<u8>> {
 // ---- sides
 
 // A record between others, which puts the fields up to one whose name has so many letters.
-fn put_shorter(alloc: Global, bytes: &mut Vec<u8>, shorter: (&[u8], usize), name: &[u8]) -> Mem<()> {
+fn put_shorter(
+    alloc: Global,
+    bytes: &mut Vec<u8>,
+    shorter: (&[u8], usize),
+    name: &[u8],
+) -> Mem<()> {
     put_fields(bytes, shorter.0, 1, 949, name)?;
     let last = letters(alloc, shorter.1)?;
     put_field(bytes, 949, &last)
