@@ -46,7 +46,7 @@ fn put_field(bytes: &mut Vec<u8>, number: u64, name: &[u8]) -> Mem<()> {
     bytes.extend_from_slice(b"\x01\0\x01")?;
     bytes.extend_from_slice(&number.to_be_bytes())?;
     bytes.extend_from_slice(b"\0\x02\x01")?;
-    bytes.extend_from_slice(&(name.len() as u32).to_be_bytes())?;
+    bytes.extend_from_slice(&u32::try_from(name.len()).unwrap_or(0).to_be_bytes())?;
     bytes.extend_from_slice(name)?;
     bytes.push(0)?;
     Ok(())
