@@ -78,8 +78,10 @@ fn takes_prefixes_off(rt: HostRuntime) {
     assert_eq!(rt; misread_name(), None);
 }
 
+// Whether a property is found by its name alone, in the case in which it is written (XML names differ by case).
 fn are_properties_named(of_type: &FeatureType) -> bool {
     of_type.property_named("Mark").is_none()
+        && of_type.property_named("Place").is_none()
         && (of_type.properties.items().is_empty() || of_type.property_named("place") == Some(2))
 }
 
