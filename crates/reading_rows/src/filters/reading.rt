@@ -84,7 +84,7 @@ fn filters_that_clients_send_are_read(rt: HostRuntime) {
     assert_eq!(rt; first_misread(rt.alloc(), None, &SENT), None);
 }
 
-static MORE: [(&str, &str); 12] = [
+static MORE: [(&str, &str); 13] = [
     (
         "PropertyIsNotEqualTo(|ValueReference=m:lit|Literal= false |)",
         "Compare { by: NotEqual, left: Property(3), right: Literal(Truth(false)), fold: false }",
@@ -127,6 +127,10 @@ static MORE: [(&str, &str); 12] = [
         "Not(|Not(|ResourceId(|@rid=Mark.18446744073709551615|)|)|)",
         "Not(Boxed { inner: Not(Boxed { inner: Ids(List { items: [Known(Rid { kind: 0, number: 18446744073709551615 })] }) }) })",
     ),
+    (
+        "PropertyIsLike(|@wildCard=é|@singleChar=.|@escapeChar=!|ValueReference=label|Literal=aé|)",
+        "Like { property: 0, pattern: List { items: [Exactly('a'), Many] } }",
+    ),
 ];
 
 #[test]
@@ -134,7 +138,7 @@ fn names_values_and_patterns_are_read(rt: HostRuntime) {
     assert_eq!(rt; first_misread(rt.alloc(), None, &MORE), None);
 }
 
-static STORED: [(&str, &str); 8] = [
+static STORED: [(&str, &str); 9] = [
     (
         "PropertyIsEqualTo(|Literal=${text}|ValueReference=size|)",
         "Compare { by: Equal, left: Parameter(1), right: Property(1), fold: false }",
@@ -161,6 +165,7 @@ static STORED: [(&str, &str); 8] = [
         "PropertyIsLike(|@wildCard=*|@singleChar=.|@escapeChar=!|ValueReference=label|Literal=$|)",
         "Like { property: 0, pattern: List { items: [Exactly('$')] } }",
     ),
+    ("ResourceId(|@rid=${id|)", "Ids(List { items: [Nobody] })"),
 ];
 
 #[test]

@@ -3,7 +3,7 @@
 use super::*;
 use std::test::Fail;
 
-static MISPLACED: [(&str, &str); 25] = [
+static MISPLACED: [(&str, &str); 35] = [
     ("", "8 Filter"),
     (
         "PropertyIsNull(|ValueReference=size|)|PropertyIsNull(|ValueReference=size|)",
@@ -71,6 +71,46 @@ static MISPLACED: [(&str, &str); 25] = [
         "Intersects(|gml:Point(|gml:pos=1 2|)|ValueReference=place|)",
         "8 Point",
     ),
+    (
+        "PropertyIsNull(|x:ValueReference=size|)",
+        "8 ValueReference",
+    ),
+    (
+        "PropertyIsEqualTo(|@matchAction=All|)",
+        "8 PropertyIsEqualTo",
+    ),
+    (
+        "PropertyIsLike(|@singleChar=.|@escapeChar=!|ValueReference=label|Literal=a|)",
+        "8 PropertyIsLike",
+    ),
+    (
+        "PropertyIsLike(|@wildCard=*|@escapeChar=!|ValueReference=label|Literal=a|)",
+        "8 PropertyIsLike",
+    ),
+    (
+        "PropertyIsNull(|ValueReference=size|Literal=1|)",
+        "8 Literal",
+    ),
+    (
+        "PropertyIsEqualTo(|Literal=A|ValueReference=label|Literal=A|)",
+        "8 Literal",
+    ),
+    (
+        "PropertyIsBetween(|ValueReference=size|LowerBoundary(|Literal=1|Literal=1|)|UpperBoundary(|Literal=2|)|)",
+        "8 Literal",
+    ),
+    (
+        "PropertyIsBetween(|ValueReference=size|LowerBoundary(|Literal=1|)|UpperBoundary(|Literal=2|)|Literal=1|)",
+        "8 Literal",
+    ),
+    (
+        "PropertyIsLike(|@wildCard=*|@singleChar=.|@escapeChar=!|ValueReference=label|Literal=a|Literal=a|)",
+        "8 Literal",
+    ),
+    (
+        "BBOX(|gml:Envelope(|gml:lowerCorner=0 1|gml:upperCorner=2 3|)|Literal=1|)",
+        "8 Literal",
+    ),
 ];
 
 #[test]
@@ -78,7 +118,7 @@ fn misplaced_and_missing_elements_are_named(rt: HostRuntime) {
     assert_eq!(rt; first_misread(rt.alloc(), None, &MISPLACED), None);
 }
 
-static REFUSED: [(&str, &str); 39] = [
+static REFUSED: [(&str, &str); 46] = [
     ("PropertyIsNil(|ValueReference=size|)", "12 PropertyIsNil"),
     ("Function", "12 Function"),
     ("x:And", "12 And"),
@@ -193,6 +233,31 @@ static REFUSED: [(&str, &str); 39] = [
         "PropertyIsEqualTo(|ValueReference=label|Literal(|@type=a|=1|)|)",
         "12 type",
     ),
+    ("@a=1|PropertyIsNull(|ValueReference=size|)", "12 a"),
+    (
+        "Or(|@a=1|PropertyIsNull(|ValueReference=size|)|PropertyIsNull(|ValueReference=size|)|)",
+        "12 a",
+    ),
+    (
+        "PropertyIsEqualTo(|@matchCase=1|ValueReference=label|Literal=A|)",
+        "12 matchCase",
+    ),
+    (
+        "PropertyIsLike(|@wildCard=*|@singleChar=.|@escapeChar=!|@a=1|ValueReference=label|Literal=a|)",
+        "12 a",
+    ),
+    (
+        "PropertyIsLike(|@wildCard=!|@singleChar=.|@escapeChar=!|ValueReference=label|Literal=a|)",
+        "12 escapeChar",
+    ),
+    (
+        "PropertyIsLike(|@wildCard=*|@singleChar=!|@escapeChar=!|ValueReference=label|Literal=a|)",
+        "12 escapeChar",
+    ),
+    (
+        "PropertyIsBetween(|ValueReference=size|LowerBoundary(|@a=1|Literal=1|)|UpperBoundary(|Literal=2|)|)",
+        "12 a",
+    ),
 ];
 
 #[test]
@@ -200,7 +265,7 @@ fn the_first_refusal_is_named(rt: HostRuntime) {
     assert_eq!(rt; first_misread(rt.alloc(), None, &REFUSED), None);
 }
 
-static DRAWN: [(&str, &str); 6] = [
+static DRAWN: [(&str, &str); 7] = [
     (
         "BBOX(|gml:Envelope(|@srsName=EPSG:4326|gml:lowerCorner=0 1|gml:upperCorner=2 3|)|)",
         "11 srsName",
@@ -221,6 +286,10 @@ static DRAWN: [(&str, &str); 6] = [
     (
         "Disjoint(|ValueReference=place|gml:Point(|gml:pos=1 2|)|Literal|)",
         "8 Literal",
+    ),
+    (
+        "BBOX(|gml:Box(|gml:lowerCorner=0 1|gml:upperCorner=2 3|)|)",
+        "8 Filter",
     ),
 ];
 

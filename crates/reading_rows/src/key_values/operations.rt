@@ -90,7 +90,7 @@ static ASKED: [(&str, &str); 29] = [
 ];
 
 // What is refused.
-static REFUSED: [(&str, &str); 42] = [
+static REFUSED: [(&str, &str); 47] = [
     ("GetCapabilities&acceptVersions=1.1.0", "13 acceptVersions"),
     (
         "GetCapabilities&acceptVersions=2.0,1.0.0",
@@ -180,6 +180,14 @@ static REFUSED: [(&str, &str); 42] = [
     (
         "DropStoredQuery&storedQuery_id=urn:ogc:def:query:OGC-WFS::GetFeatureById",
         "12 storedQuery_id",
+    ),
+    ("GetFeature&typeNames=Nope&srsName=x", "11 typeNames"),
+    ("GetPropertyValue&typeNames=Nope", "11 typeNames"),
+    ("GetFeatureWithLock&typeNames=Nope&count=x", "11 count"),
+    ("GetFeatureWithLock&expiry=0&lockAction=x", "11 expiry"),
+    (
+        "LockFeature&typeNames=Nope&expiry=0&lockAction=x",
+        "11 expiry",
     ),
 ];
 

@@ -3,7 +3,7 @@
 
 use super::*;
 
-static QUERIES: [(&str, &str); 30] = [
+static QUERIES: [(&str, &str); 31] = [
     ("<Mark/>", "8 Mark"),
     ("<m:Query typeNames='Mark'/>", "8 Query"),
     ("<Query/>", "10 typeNames"),
@@ -79,6 +79,7 @@ static QUERIES: [(&str, &str); 30] = [
         "<Query handle='h' srsName='EPSG:25832' typeNames='x:Mark' f:aliases='a'>text</Query>",
         "=\"m:Mark\"/>",
     ),
+    ("<Query typeNames='Mark'><f:SortBy a='1'/></Query>", "12 a"),
 ];
 
 #[test]
@@ -86,7 +87,7 @@ fn queries_are_refused_by_row_and_name(rt: HostRuntime) {
     assert_eq!(rt; first_misread(rt.alloc(), false, &QUERIES), Ok(None));
 }
 
-static SORTED: [(&str, &str); 19] = [
+static SORTED: [(&str, &str); 21] = [
     ("", "8 SortBy"),
     (
         "<f:ValueReference>size</f:ValueReference>",
@@ -151,6 +152,14 @@ static SORTED: [(&str, &str); 19] = [
         "<f:SortProperty><f:ValueReference>:label</f:ValueReference><f:SortOrder>DESC</f:SortOrder></f:SortProperty>",
         "=\"m:Mark\"><fes:SortBy><fes:SortProperty><fes:ValueReference>m:label</fes:ValueReference><fes:SortOrder>DESC</fes:SortOrder></fes:SortProperty></fes:SortBy></wfs:Query>",
     ),
+    (
+        "<SortProperty><f:ValueReference>size</f:ValueReference></SortProperty>",
+        "8 SortProperty",
+    ),
+    (
+        "<f:SortProperty><f:ValueReference>size</f:ValueReference></f:SortProperty></f:SortBy><f:SortBy><f:SortProperty><f:ValueReference>size</f:ValueReference></f:SortProperty>",
+        "8 SortBy",
+    ),
 ];
 
 fn is_sorted_told(alloc: Global, schema: &Schema, words: &str, wanted: &str) -> Mem<bool> {
@@ -180,7 +189,7 @@ fn sort_keys_are_refused_by_row_and_name(rt: HostRuntime) {
     assert_eq!(rt; first_unsorted(rt.alloc()), Ok(None));
 }
 
-static USES: [(&str, &str); 13] = [
+static USES: [(&str, &str); 14] = [
     ("<StoredQuery/>", "10 id"),
     ("<StoredQuery id='q' a='1'/>", "12 a"),
     ("<StoredQuery id='q'><Query/></StoredQuery>", "8 Query"),
@@ -224,6 +233,7 @@ static USES: [(&str, &str); 13] = [
         "<StoredQuery id='q' handle='h'><Parameter name='a'>1 2</Parameter><Parameter name='A'/></StoredQuery>",
         "q a=1 2 A=",
     ),
+    ("<StoredQuery a='1'/>", "10 id"),
 ];
 
 #[test]
@@ -231,7 +241,7 @@ fn uses_are_refused_by_row_and_name(rt: HostRuntime) {
     assert_eq!(rt; first_misread(rt.alloc(), false, &USES), Ok(None));
 }
 
-static DEFINITIONS: [(&str, &str); 25] = [
+static DEFINITIONS: [(&str, &str); 26] = [
     ("<Query/>", "8 Query"),
     ("<StoredQueryDefinition/>", "10 id"),
     ("<StoredQueryDefinition id='q' a='1'/>", "12 a"),
@@ -319,6 +329,10 @@ static DEFINITIONS: [(&str, &str); 25] = [
     (
         "<StoredQueryDefinition id='q'><QueryExpressionText language='urn:ogc:def:queryLanguage:OGC-WFS::WFSQueryExpression'><Query typeNames='Mark'><f:Filter><f:ResourceId rid='${l}'/></f:Filter></Query><Query typeNames='Mark'/></QueryExpressionText><Abstract a='1'><b/></Abstract><Parameter name='l' type='m:label'/><Abstract/><Title>By label</Title><Parameter name='k'/></StoredQueryDefinition>",
         "q|By label|l k |2",
+    ),
+    (
+        "<StoredQueryDefinition id='q'><QueryExpressionText><Query typeNames='Mark'/></QueryExpressionText><QueryExpressionText><Query typeNames='Mark'/></QueryExpressionText></StoredQueryDefinition>",
+        "8 QueryExpressionText",
     ),
 ];
 

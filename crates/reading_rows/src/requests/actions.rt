@@ -62,7 +62,7 @@ fn transactions_are_judged_in_order(rt: HostRuntime) {
     assert_eq!(rt; first_misread(rt.alloc(), "", "", &ROOTS), Ok(None));
 }
 
-static UPDATES: [(&str, &str); 36] = [
+static UPDATES: [(&str, &str); 40] = [
     ("<Update/>", "10 typeName"),
     ("<Update handle='h' inputFormat='x'/>", "10 typeName"),
     (
@@ -183,6 +183,22 @@ static UPDATES: [(&str, &str); 36] = [
         "<Update typeName='Mark'><Property><ValueReference>place</ValueReference><Value><g:Point><g:pos>1 2</g:pos></g:Point></Value></Property></Update>",
         "transact - whole update-all - 0 2 point",
     ),
+    (
+        "<Update typeName='Mark'><Property><ValueReference>size</ValueReference></Property><f:Filter><f:ResourceId rid='Mark.1'/></f:Filter><f:Filter><f:ResourceId rid='Mark.1'/></f:Filter></Update>",
+        "8 Filter",
+    ),
+    (
+        "<Update typeName='Mark'><Property><ValueReference>size</ValueReference></Property><f:Filter><f:ResourceId rid='Mark.1'/></f:Filter><Property><ValueReference>size</ValueReference></Property></Update>",
+        "8 Property",
+    ),
+    (
+        "<Update typeName='Mark'><Property><f:ValueReference>size</f:ValueReference></Property></Update>",
+        "8 ValueReference",
+    ),
+    (
+        "<Update srsName='EPSG:25832' inputFormat='text/xml; subtype=gml/3.2.1' typeName='Mark'><Property><ValueReference>size</ValueReference></Property></Update>",
+        "transact - whole update-all - 0 1 null",
+    ),
 ];
 
 #[test]
@@ -196,7 +212,7 @@ fn updates_are_judged_in_order(rt: HostRuntime) {
     assert_eq!(rt; found, Ok(None));
 }
 
-static OTHERS: [(&str, &str); 24] = [
+static OTHERS: [(&str, &str); 27] = [
     ("<Insert/>", "8 Insert"),
     ("<Insert>text</Insert>", "8 Insert"),
     ("<Insert srsName='x' inputFormat='y'/>", "11 inputFormat"),
@@ -253,6 +269,18 @@ static OTHERS: [(&str, &str); 24] = [
     (
         "<Delete typeName='Way' handle='h'><f:Filter><f:ResourceId rid='Way.1'/></f:Filter></Delete>",
         "transact - whole delete 2",
+    ),
+    (
+        "<Insert srsName='EPSG:25832' inputFormat='application/gml+xml; version=3.2'><m:Mark><m:label>A</m:label></m:Mark></Insert>",
+        "transact - whole insert - 0 A null null",
+    ),
+    (
+        "<Delete typeName='Mark'><Filter><f:ResourceId rid='Mark.1'/></Filter></Delete>",
+        "8 Filter",
+    ),
+    (
+        "<Replace><m:Mark><m:label>A</m:label></m:Mark><f:Filter><f:ResourceId rid='Mark.1'/></f:Filter><f:Filter><f:ResourceId rid='Mark.1'/></f:Filter></Replace>",
+        "8 Filter",
     ),
 ];
 

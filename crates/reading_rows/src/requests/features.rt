@@ -2,7 +2,7 @@
 
 use super::*;
 
-static REFUSED: [(&str, &str); 29] = [
+static REFUSED: [(&str, &str); 30] = [
     ("<m:Nope><m:label>A</m:label></m:Nope>", "14 Nope"),
     ("<Mark><m:label>A</m:label></Mark>", "14 Mark"),
     ("<m:Mark fid='1'><m:nope>1</m:nope></m:Mark>", "12 fid"),
@@ -86,9 +86,13 @@ static REFUSED: [(&str, &str); 29] = [
         "<m:Mark><m:label>A</m:label></m:Mark><m:Mark><m:size>x</m:size></m:Mark><m:Nope/>",
         "14 size",
     ),
+    (
+        "<m:Mark><m:label>A</m:label><m:place><g:Point><g:pos>1 2</g:pos></g:Point><g:Point><g:pos>1 2</g:pos></g:Point></m:place></m:Mark>",
+        "14 place",
+    ),
 ];
 
-static READ: [(&str, &str); 14] = [
+static READ: [(&str, &str); 15] = [
     (
         "<m:Mark><m:label>A</m:label></m:Mark><m:Mark><m:label>B</m:label></m:Mark>",
         "transact - whole insert h 0 A null null 0 B null null",
@@ -144,6 +148,10 @@ static READ: [(&str, &str); 14] = [
     (
         "<m:Field><m:name>x</m:name></m:Field>",
         "transact - whole insert h 1 x null",
+    ),
+    (
+        "<m:Mark><m:label>A</m:label><m:place i:nil='true'><g:Point><g:pos>1 2</g:pos></g:Point></m:place></m:Mark>",
+        "transact - whole insert h 0 A null point",
     ),
 ];
 

@@ -2,7 +2,7 @@
 
 use super::*;
 
-static REFUSED: [(&str, &str); 62] = [
+static REFUSED: [(&str, &str); 64] = [
     ("<Foo/>", "9 Foo"),
     ("<m:Transaction service='WFS'/>", "9 Transaction"),
     ("<getFeature service='WFS'/>", "9 getFeature"),
@@ -209,6 +209,11 @@ static REFUSED: [(&str, &str); 62] = [
         "<DropStoredQuery service='WFS' id='a'><StoredQueryId/></DropStoredQuery>",
         "8 StoredQueryId",
     ),
+    ("<DropStoredQuery service='WFS' id='q' a='1'/>", "12 a"),
+    (
+        "<GetCapabilities service='WFS' version='1.1.0'/>",
+        "11 version",
+    ),
 ];
 
 #[test]
@@ -216,7 +221,7 @@ fn requests_are_refused_by_row_and_name(rt: HostRuntime) {
     assert_eq!(rt; first_misread(rt.alloc(), "", "", &REFUSED), Ok(None));
 }
 
-static READ: [(&str, &str); 20] = [
+static READ: [(&str, &str); 24] = [
     ("<GetCapabilities service='WFS'/>", "capabilities"),
     (
         "<GetCapabilities service='WFS'><o:Sections a='1'/><o:AcceptVersions><o:Version>1.1.0</o:Version><o:Version>2.0.0</o:Version></o:AcceptVersions><o:AcceptFormats/></GetCapabilities>",
@@ -285,6 +290,22 @@ static READ: [(&str, &str); 20] = [
         "create q",
     ),
     ("<DropStoredQuery service='WFS' id='q'/>", "drop q"),
+    (
+        "<GetFeature resolve='none' outputFormat='text/xml; subtype=gml/3.2' service='WFS'><Query typeNames='Mark'/></GetFeature>",
+        "features 0 9 0",
+    ),
+    (
+        "<GetFeatureWithLock resolve='none' outputFormat='text/xml; subtype=gml/3.2' service='WFS'><Query typeNames='Mark'/></GetFeatureWithLock>",
+        "locked 0 9 all 300 0",
+    ),
+    (
+        "<GetPropertyValue valueReference='size' resolve='none' outputFormat='text/xml; subtype=gml/3.2' service='WFS'><Query typeNames='Mark'/></GetPropertyValue>",
+        "values 0 9 0 1",
+    ),
+    (
+        "<DescribeFeatureType outputFormat='text/xml; subtype=gml/3.2' service='WFS'/>",
+        "types",
+    ),
 ];
 
 #[test]
