@@ -212,7 +212,7 @@ fn updates_are_judged_in_order(rt: HostRuntime) {
     assert_eq!(rt; found, Ok(None));
 }
 
-static OTHERS: [(&str, &str); 27] = [
+static OTHERS: [(&str, &str); 26] = [
     ("<Insert/>", "8 Insert"),
     ("<Insert>text</Insert>", "8 Insert"),
     ("<Insert srsName='x' inputFormat='y'/>", "11 inputFormat"),
@@ -276,10 +276,6 @@ static OTHERS: [(&str, &str); 27] = [
     ),
     (
         "<Delete typeName='Mark'><Filter><f:ResourceId rid='Mark.1'/></Filter></Delete>",
-        "8 Filter",
-    ),
-    (
-        "<Replace><m:Mark><m:label>A</m:label></m:Mark><f:Filter><f:ResourceId rid='Mark.1'/></f:Filter><f:Filter><f:ResourceId rid='Mark.1'/></f:Filter></Replace>",
         "8 Filter",
     ),
 ];
