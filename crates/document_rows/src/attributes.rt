@@ -22,6 +22,9 @@ static VERSION: [(&str, &str, &str); 1] = [("", "version", "2.0.2")];
 
 static ID: [(&str, &str, &str); 1] = [("http://www.opengis.net/gml/3.2", "id", "g")];
 
+// The longer of these comes first, by its bytes.
+static SHORT: [(&str, &str, &str); 2] = [("", "b", "1"), ("", "aa", "2")];
+
 fn attributes(alloc: Global, rows: &[(&str, &str, &str)]) -> Mem<Vec<Attribute>> {
     let mut all = Vec::new(alloc);
     for (space, local, value) in rows {
@@ -67,6 +70,9 @@ fn the_first_other_attribute_is_told(rt: HostRuntime) -> Result<(), Fail> {
     assert!(rt; first == Some("mark"), "of three");
     let first = first_other(&["version", "Note", "mark", "note", "zone"], &all);
     assert!(rt; first.is_none(), "none");
+    let two = attributes(alloc, &SHORT)?;
+    let first = first_other(&[], &two).map(|text| text.as_str());
+    assert!(rt; first == Some("aa"), "of two");
     let one = attributes(alloc, &ID)?;
     assert!(rt; first_other(&[], &one).is_none(), "in a namespace");
     Ok(())

@@ -3,6 +3,7 @@
 use doc_read::{DocFault, read_document};
 use doc_tree::{Attribute, Element, QName};
 use std::alloc::Global;
+use std::test::Fail;
 use wfs_ends::Mem;
 
 /// A text between two marks, where it is not empty.
@@ -88,7 +89,7 @@ fn is_read_as(alloc: Global, bytes: &[u8], wanted: &str) -> bool {
 }
 
 /// Documents, and the tree or the fault that the rules give.
-static DOCUMENTS: [(&str, &str); 163] = [
+static DOCUMENTS: [(&str, &str); 178] = [
     // The byte order mark and the declaration.
     ("\u{feff}<a/>", "a"),
     ("\u{feff}<?xml version='1.0'?><a/>", "a"),
@@ -102,7 +103,10 @@ static DOCUMENTS: [(&str, &str); 163] = [
     ("<?xml version='1.0' standalone=\"no\"?><a/>", "a"),
     ("<?xml version='1.1'?><a/>", "Malformed"),
     ("<?xml version='1.0' encoding='latin1'?><a/>", "Malformed"),
+    ("<?xml version='1.0' encoding='utf8'?><a/>", "Malformed"),
+    ("<?xml version='1.0' encoding='Utf-8'?><a/>", "a"),
     ("<?xml version='1.0' standalone='maybe'?><a/>", "Malformed"),
+    ("<?xml version='1.0' standalone='YES'?><a/>", "Malformed"),
     (
         "<?xml version='1.0' standalone='no' encoding='UTF-8'?><a/>",
         "Malformed",
@@ -126,6 +130,7 @@ static DOCUMENTS: [(&str, &str); 163] = [
     ("<a/><!DOCTYPE a>", "Doctype"),
     ("<a><!DOCTYPE a></a>", "Doctype"),
     ("<!doctype a><a/>", "Malformed"),
+    ("<!DOCTYP a><a/>", "Malformed"),
     ("<!ELEMENT a><a/>", "Malformed"),
     ("<?style a?><a/>", "Malformed"),
     ("<a><?style a?></a>", "Malformed"),
@@ -144,6 +149,7 @@ static DOCUMENTS: [(&str, &str); 163] = [
     ("<a />", "a"),
     ("<a></a>", "a"),
     ("<a\n></a\t>", "a"),
+    ("<a\u{a0}/>", "Malformed"),
     ("< a/>", "Malformed"),
     ("<9a/>", "Malformed"),
     ("<-a/>", "Malformed"),
@@ -206,6 +212,7 @@ static DOCUMENTS: [(&str, &str); 163] = [
     ("<a>&lt;&gt;&amp;&quot;&apos;</a>", "a\"<>&\"'\""),
     ("<a>\r\n\r\r\n\n</a>", "a\"\n\n\n\n\""),
     ("<a>&#13;&#10;</a>", "a\"\r\n\""),
+    ("<a>\u{85}\u{2028}</a>", "a\"\u{85}\u{2028}\""),
     ("<a>&#0;</a>", "Malformed"),
     ("<a>&#xFFFE;</a>", "Malformed"),
     ("<a>&#xFFFF;</a>", "Malformed"),
@@ -220,11 +227,14 @@ static DOCUMENTS: [(&str, &str); 163] = [
     ("<a>&#x110000;</a>", "Malformed"),
     ("<a>&#x10FFFF;&#000065;</a>", "a\"\u{10ffff}A\""),
     ("<a>&#99999999999999999999;</a>", "Malformed"),
+    ("<a>&#4294967361;</a>", "Malformed"),
     ("<a>&#;</a>", "Malformed"),
     ("<a>&#x;</a>", "Malformed"),
     ("<a>&#X41;</a>", "Malformed"),
     ("<a>&#4A;</a>", "Malformed"),
     ("<a>&lt</a>", "Malformed"),
+    ("<a>&LT;</a>", "Malformed"),
+    ("<a>&nbsp;</a>", "Malformed"),
     ("<a>& </a>", "Malformed"),
     ("<a>x]]>y</a>", "Malformed"),
     ("<a>]]&gt;]><![CDATA[]]]]>]]</a>", "a\"]]>]>]]]]\""),
@@ -257,8 +267,16 @@ static DOCUMENTS: [(&str, &str); 163] = [
         "<a xmlns:xml='u' xml:lang='en'/>",
         "a[{http://www.w3.org/XML/1998/namespace}lang=en]",
     ),
+    ("<xml:a/>", "{http://www.w3.org/XML/1998/namespace}a"),
+    (
+        "<p:a xmlns:p='http://www.w3.org/XML/1998/namespace'/>",
+        "{http://www.w3.org/XML/1998/namespace}a",
+    ),
+    ("<xmlns:a xmlns:xmlns='u'/>", "{u}a"),
+    ("<a xmlns:p='u' p:xmlns='v'/>", "a[{u}xmlns=v]"),
     ("<a xmlns:p='&#117;&amp;'><p:b/></a>", "a({u&}b)"),
     ("<a xmlns:p=''/>", "Malformed"),
+    ("<a xmlns:xml=''/>", "Malformed"),
     ("<a xmlns:p='u' xmlns:p='u'/>", "Malformed"),
     ("<a xmlns='u' xmlns='u'/>", "Malformed"),
     ("<p:a/>", "Prefix"),
@@ -269,6 +287,10 @@ static DOCUMENTS: [(&str, &str); 163] = [
     ("<p:a b='1' b='2'/>", "Malformed"),
     (
         "<p:a xmlns:q='u' xmlns:r='u' q:b='1' r:b='2'/>",
+        "Malformed",
+    ),
+    (
+        "<a q:b='' r:b='' s:c='' xmlns:q='u' xmlns:r='u'/>",
         "Malformed",
     ),
     ("<p:a xmlns:q=''/>", "Malformed"),
@@ -361,11 +383,12 @@ static CHILDREN: [(u32, &str, &str); 2] = [
 ];
 
 /// How many attributes and as many declarations a tag has, what comes behind them, and what is told of it.
-static ATTRIBUTES: [(u32, &str, &str); 4] = [
+static ATTRIBUTES: [(u32, &str, &str); 5] = [
     (64, "/>", "read"),
     (65, "/>", "TooMany"),
     (65, " b0=''/>", "Malformed"),
     (65, " q:b=''/>", "Prefix"),
+    (65, "><p:b/></a>", "TooMany"),
 ];
 
 /// Whether this is told of a text.
@@ -414,4 +437,12 @@ fn counts_attributes(rt: HostRuntime) {
             "{after}"
         );
     }
+}
+
+#[test]
+fn depth_is_told_before_count(rt: HostRuntime) -> Result<(), Fail> {
+    let alloc = rt.alloc();
+    let inside = tag(alloc, 65, "/>")?;
+    assert!(rt; is_told(alloc, nested(alloc, 32, inside.as_str()), "TooDeep"));
+    Ok(())
 }

@@ -17,7 +17,7 @@ const OLD_GML: &str = "http://www.opengis.net/gml";
 // The name of an element, its attributes, what it holds, and what it is read as.
 //
 // An attribute is the name of the elements that have it, its own, and its value, with spaces between; `;` parts
-// attributes. What an element holds is the names of elements that hold one another, with `/` between, and `=` and the
+// attributes, and one behind `:` is in the namespace of GML. What an element holds is the names of elements that hold one another, with `/` between, and `=` and the
 // text of the last; `;` parts these, and `|` the texts of several in place of the last. A name behind `!` is of an
 // older GML.
 type Case = (&'static str, &'static str, &'static str, &'static str);
@@ -26,6 +26,13 @@ fn gml(alloc: Global, local: &str) -> Mem<QName> {
     match local.strip_prefix('!') {
         Some(old) => name(alloc, OLD_GML, old),
         None => name(alloc, GML, local),
+    }
+}
+
+fn attribute_name(alloc: Global, local: &str) -> Mem<QName> {
+    match local.strip_prefix(':') {
+        Some(own) => name(alloc, GML, own),
+        None => name(alloc, "", local),
     }
 }
 
@@ -43,7 +50,7 @@ fn attributes_of(alloc: Global, local: &str, marks: &str) -> Mem<Vec<Attribute>>
         let (attribute, value) = parts(rest, ' ');
         if on == local {
             attributes.push(Attribute {
-                name: name(alloc, "", attribute)?,
+                name: attribute_name(alloc, attribute)?,
                 value: Text::of(alloc, value)?,
             })?;
         }
@@ -193,7 +200,7 @@ fn is_answered(alloc: Global, case: &Case) -> bool {
 }
 
 // Forms that other programs write, and the coordinates of positions.
-static POSITIONS: [Case; 30] = [
+static POSITIONS: [Case; 32] = [
     (
         "Point",
         "Point srsName urn:ogc:def:crs:EPSG::25832",
@@ -206,6 +213,7 @@ static POSITIONS: [Case; 30] = [
         "pos=12.0 7",
         "at 12,7",
     ),
+    ("Point", "Point :srsName EPSG:4326", "pos=12 7", "at 12,7"),
     (
         "LineString",
         "LineString srsName urn:ogc:def:crs:EPSG::25832",
@@ -249,6 +257,7 @@ static POSITIONS: [Case; 30] = [
     ("Point", "", "pos= \t+1\n-0 ", "at 1,0"),
     ("Point", "", "pos=007 -12.000", "at 7,-12"),
     ("Point", "", "pos=12.5 7", "Number"),
+    ("Point", "", "pos=12.05 7", "Number"),
     ("Point", "", "pos=12. 7", "Number"),
     ("Point", "", "pos=.0 7", "Number"),
     ("Point", "", "pos=1e2 7", "Number"),
@@ -272,7 +281,7 @@ static POSITIONS: [Case; 30] = [
 ];
 
 // What is missing or misplaced, reference systems and shapes.
-static FORMS: [Case; 32] = [
+static FORMS: [Case; 47] = [
     ("Point", "", "pos=0 1000000001", "OutOfRange"),
     (
         "Point",
@@ -281,6 +290,7 @@ static FORMS: [Case; 32] = [
         "OutOfRange",
     ),
     ("LineString", "", "posList=9999999999 0 1 x", "Number"),
+    ("Point", "", "pos=9999999999 x", "Number"),
     ("!Point", "", "pos=12 7", "Kind"),
     ("Point", "", "!pos=12 7", "Kind"),
     ("Point", "", "", "Kind"),
@@ -288,7 +298,12 @@ static FORMS: [Case; 32] = [
     ("Point", "", "coordinates=12,7", "Kind"),
     ("Point", "", "pos=12 7|1 2", "Kind"),
     ("Point", "", "pos/pos=12 7", "Kind"),
+    ("Point", "", "pos=x|1 2", "Number"),
+    ("LineString", "", "", "Kind"),
+    ("LineString", "", "pos=x", "Number"),
+    ("LineString", "", "posList/pos=1 2", "Kind"),
     ("LineString", "", "posList=1 2 3 4|1 2 3 4", "Kind"),
+    ("LineString", "", "posList=1 2|3 4", "Kind"),
     ("Curve", "", "posList=1 2 3 4", "Kind"),
     ("LinearRing", "", "posList=0 0 10 0 10 10 0 10 0 0", "Kind"),
     ("Polygon", "", "", "Kind"),
@@ -318,7 +333,44 @@ static FORMS: [Case; 32] = [
         "lowerCorner=0 0;upperCorner=1 1;upperCorner=1 1",
         "Kind",
     ),
+    (
+        "Envelope",
+        "",
+        "lowerCorner=2 0;upperCorner=1 1|0 0",
+        "Kind",
+    ),
     ("Point", "Point srsName EPSG:4326", "pos=12 7", "Srs"),
+    ("Point", "Point srsName EPSG:4326", "", "Srs"),
+    (
+        "Point",
+        "Point srsName EPSG:25832;Point srsDimension 3",
+        "pos=12 7",
+        "Srs",
+    ),
+    (
+        "LineString",
+        "LineString srsDimension 3",
+        "posList=1 2 3 4",
+        "Srs",
+    ),
+    (
+        "Polygon",
+        "Polygon srsDimension 3",
+        "exterior/LinearRing/posList=0 0 10 0 10 10 0 10 0 0",
+        "Srs",
+    ),
+    (
+        "Polygon",
+        "exterior srsDimension 3",
+        "exterior/LinearRing/posList=0 0 10 0 10 10 0 10 0 0",
+        "Srs",
+    ),
+    (
+        "Polygon",
+        "interior srsDimension 3",
+        "exterior/LinearRing/posList=0 0 10 0 10 10 0 10 0 0;interior/LinearRing/posList=2 2 4 2 4 4 2 2",
+        "Srs",
+    ),
     (
         "Point",
         "pos srsName http://www.opengis.net/gml/srs/epsg.xml#25832",
@@ -338,6 +390,7 @@ static FORMS: [Case; 32] = [
         "Srs",
     ),
     ("!Point", "!Point srsName EPSG:4326", "pos=12 7", "Kind"),
+    ("Point", "!pos srsName EPSG:4326", "!pos=12 7", "Kind"),
     (
         "Envelope",
         "upperCorner srsDimension 02",
@@ -364,27 +417,33 @@ static FORMS: [Case; 32] = [
         "exterior/LinearRing/posList=0 0 10 0 10 10 0 10 0 0;interior/LinearRing/posList=20 20 21 20 21 21 20 20",
         "HoleOutside",
     ),
+    (
+        "Polygon",
+        "",
+        "exterior/LinearRing/posList=0 0 10 0 10 10 0 10 0 0;interior/LinearRing/posList=20 20 21 20 21 21 20 20;interior/LinearRing/posList=x",
+        "Number",
+    ),
     ("Envelope", "", "lowerCorner=2 0;upperCorner=1 1", "Turned"),
 ];
 
 // The first case of a table that is read as something else.
-fn first_wrong(alloc: Global, cases: &[Case]) -> &str {
+fn first_wrong(alloc: Global, cases: &[Case]) -> Option<&str> {
     for case in cases {
         if !is_answered(alloc, case) {
-            return case.2;
+            return Some(case.2);
         }
     }
-    ""
+    None
 }
 
 #[test]
 fn positions_are_read(rt: HostRuntime) {
-    assert_eq!(rt; first_wrong(rt.alloc(), &POSITIONS), "");
+    assert_eq!(rt; first_wrong(rt.alloc(), &POSITIONS), None);
 }
 
 #[test]
 fn elements_are_judged(rt: HostRuntime) {
-    assert_eq!(rt; first_wrong(rt.alloc(), &FORMS), "");
+    assert_eq!(rt; first_wrong(rt.alloc(), &FORMS), None);
 }
 
 // Elements, and the text that is given for what they are read as.
@@ -446,26 +505,50 @@ fn geometries_are_given_and_read_back(rt: HostRuntime) {
     }
 }
 
-// A line of so many positions.
-fn long_line(alloc: Global, count: usize) -> Mem<Element> {
+// A polygon whose exterior has two rings.
+fn two_rings(alloc: Global) -> Mem<Element> {
+    let rings = "LinearRing/posList=0 0 1 0 1 1 0 0;LinearRing/posList=0 0 1 0 1 1 0 0";
+    let mut sides = Vec::new(alloc);
+    sides.push(tree(alloc, "exterior", "", rings)?)?;
+    element(alloc, "Polygon", "", sides, "")
+}
+
+fn fault_of_rings(alloc: Global) -> Result<(), GmlFault> {
+    read_geometry(alloc, &two_rings(alloc)?, &known(alloc)?)?;
+    Ok(())
+}
+
+#[test]
+fn a_side_has_one_ring(rt: HostRuntime) {
+    assert_eq!(rt; fault_of_rings(rt.alloc()), Err(GmlFault::Kind));
+}
+
+// A line of so many positions, and of what stands behind them.
+fn long_line(alloc: Global, count: usize, behind: &str) -> Mem<Element> {
     let mut text = String::new(alloc);
     for _ in 0..count {
         text.push_str("1 2\n")?;
     }
+    text.push_str(behind)?;
     let list = element(alloc, "posList", "", Vec::new(alloc), text.as_str())?;
     let mut children = Vec::new(alloc);
     children.push(list)?;
     element(alloc, "LineString", "", children, "")
 }
 
-fn fault_of_line(alloc: Global, count: usize) -> Result<(), GmlFault> {
-    read_geometry(alloc, &long_line(alloc, count)?, &known(alloc)?)?;
+fn fault_of_line(alloc: Global, count: usize, behind: &str) -> Result<(), GmlFault> {
+    read_geometry(alloc, &long_line(alloc, count, behind)?, &known(alloc)?)?;
     Ok(())
 }
 
 #[test]
 fn a_line_has_up_to_ten_thousand_positions(rt: HostRuntime) {
     let too_many = Err(GmlFault::Shape(GeomFault::TooMany));
-    assert_eq!(rt; fault_of_line(rt.alloc(), 10_000), Ok(()));
-    assert_eq!(rt; fault_of_line(rt.alloc(), 10_001), too_many);
+    assert_eq!(rt; fault_of_line(rt.alloc(), 10_000, ""), Ok(()));
+    assert_eq!(rt; fault_of_line(rt.alloc(), 10_001, ""), too_many);
+    // The numbers are judged before how many there are.
+    assert_eq!(rt;
+        fault_of_line(rt.alloc(), 10_000, "x 2"),
+        Err(GmlFault::Number)
+    );
 }
