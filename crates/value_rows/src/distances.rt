@@ -204,5 +204,6 @@ fn lie_within_the_farthest(alloc: Global) -> Mem<bool> {
 fn least_distances_by_table(rt: HostRuntime) -> Result<(), Fail> {
     assert_eq!(rt; first_wrong(rt.alloc())?, None);
     assert!(rt; lie_within_the_farthest(rt.alloc())?);
+    assert_eq!(rt; FARTHEST_DISTANCE, 4_000_000_000);
     Ok(())
 }

@@ -1,6 +1,6 @@
 //! Faults, signs and copies by rows whose answers were worked out by hand.
 
-use crate::places::{FAR, Place};
+use crate::places::{FAR, Place, path};
 use geom_core::{Box2, GeomFault, Geometry, Line, Polygon, Pos, Ring, bounds, orient};
 use std::alloc::{AllocError, Global};
 use std::test::Fail;
@@ -61,6 +61,21 @@ static AWAY: [Place; 4] = [(20, 20), (21, 20), (21, 21), (20, 20)];
 
 static PARTLY: [Place; 4] = [(8, 8), (12, 8), (8, 9), (8, 8)];
 
+// A field with a part left open at its top, and a hole whose corners lie to both sides of that part.
+static YARD: [Place; 9] = [
+    (0, 0),
+    (10, 0),
+    (10, 10),
+    (8, 10),
+    (8, 2),
+    (2, 2),
+    (2, 10),
+    (0, 10),
+    (0, 0),
+];
+
+static ACROSS: [Place; 4] = [(1, 9), (9, 9), (9, 1), (1, 9)];
+
 // What is left of a square behind its corner at (10, -10), and a hole to the left of that square.
 static SIDES: [Place; 4] = [(10, 10), (-10, 10), (-10, -10), (10, -10)];
 
@@ -118,6 +133,20 @@ fn first_misjudged(alloc: Global) -> Result<Option<&'static str>, AllocError> {
         (
             "far below",
             &[(0, 0), (0, -FAR - 1)],
+            &[],
+            1,
+            Some(GeomFault::OutOfRange),
+        ),
+        (
+            "far to the left",
+            &[(0, 0), (-FAR - 1, 0)],
+            &[],
+            1,
+            Some(GeomFault::OutOfRange),
+        ),
+        (
+            "far above",
+            &[(0, 0), (0, FAR + 1)],
             &[],
             1,
             Some(GeomFault::OutOfRange),
@@ -187,6 +216,7 @@ fn first_misjudged(alloc: Global) -> Result<Option<&'static str>, AllocError> {
             1,
             Some(GeomFault::HoleOutside),
         ),
+        ("outside by an edge alone", &YARD, &ACROSS, 1, None),
         (
             "shell in the hole",
             &GAP,
@@ -205,6 +235,47 @@ fn first_misjudged(alloc: Global) -> Result<Option<&'static str>, AllocError> {
 #[test]
 fn first_fault_of_a_polygon(rt: HostRuntime) -> Result<(), Fail> {
     assert_eq!(rt; first_misjudged(rt.alloc())?, None);
+    Ok(())
+}
+
+// Whether the field with two holes has this fault. The last place of the second hole stands so many times.
+fn is_fault_of_two(
+    alloc: Global,
+    second: &[Place],
+    times: usize,
+    want: Option<GeomFault>,
+) -> Result<bool, AllocError> {
+    let mut holes = Vec::new(alloc);
+    for (places, times) in [(&GAP as &[Place], 1), (second, times)] {
+        if let Ok(hole) = ring(alloc, places, times)? {
+            holes.push(hole)?;
+        }
+    }
+    match ring(alloc, &FIELD, 1)? {
+        Ok(shell) => Ok(holes.len() == 2 && Polygon::new(shell, holes).err() == want),
+        Err(_) => Ok(false),
+    }
+}
+
+#[test]
+fn faults_of_a_second_hole(rt: HostRuntime) -> Result<(), Fail> {
+    for (second, times, want) in [
+        (&AWAY as &[Place], 1, Some(GeomFault::HoleOutside)),
+        (&GAP, 9_986, None),
+        (&GAP, 9_987, Some(GeomFault::TooMany)),
+    ] {
+        assert!(rt; is_fault_of_two(rt.alloc(), second, times, want)?);
+    }
+    Ok(())
+}
+
+#[test]
+fn rings_of_many(rt: HostRuntime) -> Result<(), Fail> {
+    assert_eq!(rt; ring(rt.alloc(), &FIELD, 9_996)?.err(), None);
+    assert_eq!(rt;
+        ring(rt.alloc(), &FIELD, 9_997)?.err(),
+        Some(GeomFault::TooMany)
+    );
     Ok(())
 }
 
@@ -311,10 +382,44 @@ fn field_holds(alloc: Global, p: Pos) -> Mem<bool> {
 
 fn differs(alloc: Global, other: &Geometry, p: Pos) -> Mem<bool> {
     let point = Geometry::At(p);
-    match field(alloc, &[])? {
+    Ok(point != *other && has_not(alloc, other, &[])? && has_not(alloc, other, &BOW)?)
+}
+
+// Whether a field differs from that with this gap.
+fn has_not(alloc: Global, other: &Geometry, gap: &[Place]) -> Mem<bool> {
+    match field(alloc, gap)? {
         None => Ok(false),
-        Some(whole) => Ok(whole != *other && *other != whole && point != *other),
+        Some(whole) => Ok(whole != *other && *other != whole),
     }
+}
+
+// Whether the lines through these places are equal, if they are lines.
+fn are_equal(alloc: Global, one: &[Place], other: &[Place]) -> Mem<Option<bool>> {
+    match (
+        Line::new(path(alloc, one)?),
+        Line::new(path(alloc, other)?),
+    ) {
+        (Ok(one), Ok(other)) => Ok(Some(one == other)),
+        _ => Ok(None),
+    }
+}
+
+static BEND: [Place; 3] = [(0, 0), (2, 2), (1, 1)];
+
+// What differs from it by one coordinate, and by its order.
+static OTHERS: [[Place; 3]; 4] = [
+    [(0, 0), (2, 2), (1, 2)],
+    [(0, 0), (2, 2), (2, 1)],
+    [(1, 0), (2, 2), (1, 1)],
+    [(2, 2), (0, 0), (1, 1)],
+];
+
+#[test]
+fn lines_that_differ(rt: HostRuntime) {
+    for other in OTHERS.iter() {
+        assert_eq!(rt; are_equal(rt.alloc(), &BEND, other), Ok(Some(false)));
+    }
+    assert_eq!(rt; are_equal(rt.alloc(), &BEND, &BEND[..2]), Ok(Some(false)));
 }
 
 // Whether a line is copied, and is no point.

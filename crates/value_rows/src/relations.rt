@@ -29,7 +29,7 @@ enum Sketch {
 use Sketch::{Along, At, Between, Bow, Diamond, Field, Gapped, Isle, Pitted, Rising, Star, Way};
 
 /// Two shapes, and whether they share a position.
-static ROWS: [(&str, Sketch, Sketch, bool); 51] = [
+static ROWS: [(&str, Sketch, Sketch, bool); 57] = [
     ("crossing", Rising, Along((0, 10), (10, 0)), true),
     ("end on end", Rising, Along((10, 10), (19, 0)), true),
     ("end on side", Rising, Along((5, 5), (5, 9)), true),
@@ -89,6 +89,42 @@ static ROWS: [(&str, Sketch, Sketch, bool); 51] = [
         "box beside a field",
         Gapped,
         Between((11, 0), (12, 10)),
+        false,
+    ),
+    (
+        "through a box's right side",
+        Along((15, 5), (5, 5)),
+        Between((0, 0), (10, 10)),
+        true,
+    ),
+    (
+        "through its top",
+        Along((5, 15), (5, 5)),
+        Between((0, 0), (10, 10)),
+        true,
+    ),
+    (
+        "through its left side",
+        Along((-5, 5), (5, 5)),
+        Between((0, 0), (10, 10)),
+        true,
+    ),
+    (
+        "through its foot",
+        Along((5, -5), (5, 5)),
+        Between((0, 0), (10, 10)),
+        true,
+    ),
+    (
+        "from above a box, past it",
+        Along((5, 30), (30, 0)),
+        Between((0, 0), (10, 10)),
+        false,
+    ),
+    (
+        "from beside a box, past it",
+        Along((30, 5), (0, 30)),
+        Between((0, 0), (10, 10)),
         false,
     ),
     ("in a hole", Gapped, At((3, 3)), false),

@@ -1,6 +1,8 @@
 //! Files that are right and files that are wrong, with what is said of each, and signatures.
 
-use crate::schema::files::{ENDS, HEAD, LENGTHS, MARKS, RIGHT, WRONG};
+use crate::schema::files::{
+    CHARACTERS, ENDS, HEAD, LENGTHS, MARKS, PROPERTIES, RIGHT, SIGNED, STARTS, WRONG,
+};
 use feature_schema::{SchemaFault, read_schema, signature};
 use feature_values::{FeatureType, Property, Schema, ValueKind};
 use std::alloc::Global;
@@ -140,6 +142,100 @@ fn is_told_with(alloc: Global, old: &str, new: &str, line: &str) -> Mem<bool> {
     Ok(is_told(alloc, file.as_bytes(), line))
 }
 
+// `MARKS` with one of its texts replaced, as it is read, if it is.
+fn read_with(alloc: Global, old: &str, new: &str) -> Mem<Option<Schema>> {
+    let Some((before, behind)) = MARKS.split_once(old) else {
+        return Ok(None);
+    };
+    let file = joined(alloc, before, new, behind)?;
+    Ok(read_schema(alloc, file.as_bytes()).ok())
+}
+
+fn is_signed_with(alloc: Global, old: &str, new: &str, line: &str) -> Mem<bool> {
+    let Some(schema) = read_with(alloc, old, new)? else {
+        return Ok(false);
+    };
+    let text = signature(alloc, &schema)?;
+    Ok(text.as_str() == line)
+}
+
+// The first row of `SIGNED` that has another signature.
+fn missigned(alloc: Global) -> Mem<Option<&'static str>> {
+    for row in SIGNED.iter() {
+        let (old, new, line) = *row;
+        if !is_signed_with(alloc, old, new, line)? {
+            return Ok(Some(new));
+        }
+    }
+    Ok(None)
+}
+
+#[test]
+fn signs_kinds_and_names_alone(rt: HostRuntime) {
+    assert_eq!(rt; missigned(rt.alloc()), Ok(None));
+}
+
+fn has_property(schema: &Schema, row: &(&str, &str, &str, ValueKind, bool, u32)) -> bool {
+    let (_, _, name, kind, required, max) = *row;
+    for of_type in schema.types.items() {
+        for property in of_type.properties.items() {
+            if is_property(property, name, kind, required, max) {
+                return true;
+            }
+        }
+    }
+    false
+}
+
+// What stands in the first row of `PROPERTIES` whose property is not there.
+fn misread_property(alloc: Global) -> Mem<Option<&'static str>> {
+    for row in PROPERTIES.iter() {
+        let Some(schema) = read_with(alloc, row.0, row.1)? else {
+            return Ok(Some(row.1));
+        };
+        if !has_property(&schema, row) {
+            return Ok(Some(row.1));
+        }
+    }
+    Ok(None)
+}
+
+#[test]
+fn reads_properties(rt: HostRuntime) {
+    assert_eq!(rt; misread_property(rt.alloc()), Ok(None));
+}
+
+// Whether a type of this name is told by this line.
+fn is_name_told(alloc: Global, start: &str, character: &str, line: &str) -> Mem<bool> {
+    let name = joined(alloc, start, character, "\"")?;
+    is_told_with(alloc, r#""Way""#, name.as_str(), line)
+}
+
+fn is_character_told(alloc: Global, c: char, first: &str, later: &str) -> Mem<bool> {
+    let mut character = String::new(alloc);
+    character.push(c)?;
+    Ok(is_name_told(alloc, "\"", character.as_str(), first)?
+        && is_name_told(alloc, "\"A", character.as_str(), later)?)
+}
+
+// The first character of `CHARACTERS` that is told by another line.
+fn mistold_character(alloc: Global) -> Mem<Option<char>> {
+    for row in CHARACTERS.iter() {
+        let (characters, first, later) = *row;
+        for c in characters.chars() {
+            if !is_character_told(alloc, c, first, later)? {
+                return Ok(Some(c));
+            }
+        }
+    }
+    Ok(None)
+}
+
+#[test]
+fn knows_the_characters_of_names(rt: HostRuntime) {
+    assert_eq!(rt; mistold_character(rt.alloc()), Ok(None));
+}
+
 // What the first of these files is that is told by another line.
 fn mistold(
     alloc: Global,
@@ -204,6 +300,22 @@ fn mistold_end(alloc: Global) -> Mem<Option<&'static str>> {
     Ok(None)
 }
 
+// The first file of `STARTS` that is told by another line.
+fn mistold_start(alloc: Global) -> Option<&'static str> {
+    for row in STARTS.iter() {
+        let (file, line) = *row;
+        if !is_told(alloc, file.as_bytes(), line) {
+            return Some(file);
+        }
+    }
+    None
+}
+
+#[test]
+fn judges_the_top_keys_in_order(rt: HostRuntime) {
+    assert_eq!(rt; mistold_start(rt.alloc()), None);
+}
+
 #[test]
 fn names_the_first_fault_of_a_file(rt: HostRuntime) {
     assert_eq!(rt; mistold_end(rt.alloc()), Ok(None));
@@ -229,7 +341,7 @@ fn items(alloc: Global, item: &str, count: u32) -> Mem<String> {
 }
 
 // What stands behind `HEAD`: an opening text, so many of an item with names of their own, and a closing text; and the line.
-static COUNTS: [(&str, &str, &str, u32, &str); 8] = [
+static COUNTS: [(&str, &str, &str, u32, &str); 11] = [
     ("type=[", "property=[]", "]", 64, "Ok"),
     ("type=[", "property=[]", "]", 65, "TooMany"),
     ("type=[", "bar=1", "]", 65, "TooMany"),
@@ -256,6 +368,21 @@ static COUNTS: [(&str, &str, &str, u32, &str); 8] = [
         "TooMany",
     ),
     ("type=[{property=[", "kind=\"x\"", "]}]", 65, "Key name"),
+    ("type=[1,", "property=[]", "]", 65, "Key type"),
+    (
+        "type=[{name=\"A\",property=[1,",
+        "kind=\"line\"",
+        "]}]",
+        65,
+        "Key property",
+    ),
+    (
+        "type=[{name=\"A\",bar=1,property=[",
+        "kind=\"line\"",
+        "]}]",
+        65,
+        "TooMany",
+    ),
 ];
 
 // Whether the file of a row is told by the row's line.

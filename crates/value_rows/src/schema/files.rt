@@ -1,5 +1,7 @@
 //! The schema files of the tests, each with the line by which it is told behind `schema refused: `, or `Ok`.
 
+use feature_values::ValueKind;
+
 pub const MARKS: &str = r#"title = "Marks"
 address = "http://localhost:8080/wfs"
 namespace = "http://example.org/marks"
@@ -19,7 +21,7 @@ property = [ {name="course", kind="line"} ]
 
 // Files that are wrong in one way: what is wrong, the text of `MARKS` that is replaced, what stands in its place,
 // and the line.
-pub static WRONG: [(&str, &str, &str, &str); 61] = [
+pub static WRONG: [(&str, &str, &str, &str); 68] = [
     (
         "an open bracket",
         r#""EPSG:25832"]"#,
@@ -92,6 +94,12 @@ pub static WRONG: [(&str, &str, &str, &str); 61] = [
         "U+0001 in the title",
         r#"title = "Marks""#,
         r#"title = "a\u0001""#,
+        "Key title",
+    ),
+    (
+        "U+001F in the title",
+        r#"title = "Marks""#,
+        r#"title = "a\u001F""#,
         "Key title",
     ),
     (
@@ -197,6 +205,12 @@ pub static WRONG: [(&str, &str, &str, &str); 61] = [
     ),
     ("a type named twice", r#""Way""#, r#""Mark""#, "Twice Mark"),
     (
+        "a type named as the second",
+        r#""Way""#,
+        r#""Field""#,
+        "Twice Field",
+    ),
+    (
         "a type without properties",
         "property = [ {name=\"course\", kind=\"line\"} ]\n",
         "",
@@ -237,6 +251,12 @@ pub static WRONG: [(&str, &str, &str, &str); 61] = [
         r#""size""#,
         r#""label""#,
         "Twice label",
+    ),
+    (
+        "a property named as the second",
+        r#""place""#,
+        r#""size""#,
+        "Twice size",
     ),
     (
         "a property without a kind",
@@ -281,6 +301,30 @@ pub static WRONG: [(&str, &str, &str, &str); 61] = [
         "Key max",
     ),
     (
+        "max on a boolean",
+        r#"kind="integer""#,
+        r#"kind="boolean", max=9"#,
+        "Key max",
+    ),
+    (
+        "max on a point",
+        r#"kind="point""#,
+        r#"kind="point", max=9"#,
+        "Key max",
+    ),
+    (
+        "max on a line",
+        r#"kind="line""#,
+        r#"kind="line", max=9"#,
+        "Key max",
+    ),
+    (
+        "max on a polygon",
+        r#"kind="polygon""#,
+        r#"kind="polygon", max=9"#,
+        "Key max",
+    ),
+    (
         "an unknown key of a property",
         r#"kind="integer""#,
         r#"kind="integer", unit="m""#,
@@ -289,7 +333,7 @@ pub static WRONG: [(&str, &str, &str, &str); 61] = [
 ];
 
 // Files that are right, in the same form.
-pub static RIGHT: [(&str, &str, &str, &str); 12] = [
+pub static RIGHT: [(&str, &str, &str, &str); 16] = [
     ("the file itself", r#""Marks""#, r#""Marks""#, "Ok"),
     (
         "a tab in the title",
@@ -297,7 +341,20 @@ pub static RIGHT: [(&str, &str, &str, &str); 12] = [
         r#"title = "a\tb""#,
         "Ok",
     ),
+    (
+        "the ends of what XML allows, in the title",
+        r#"title = "Marks""#,
+        r#"title = " \r\u007F\uD7FF\uE000\uFFFD\U00010000\U0010FFFF""#,
+        "Ok",
+    ),
     ("a prefix that begins with xm", r#""m""#, r#""xm""#, "Ok"),
+    ("a prefix in capitals", r#""m""#, r#""XML""#, "Ok"),
+    (
+        "a prefix that begins with a taken one",
+        r#""m""#,
+        r#""xsi""#,
+        "Ok",
+    ),
     (
         "eight names in srs",
         r#""EPSG:25832"]"#,
@@ -314,6 +371,12 @@ pub static RIGHT: [(&str, &str, &str, &str); 12] = [
         "type names that differ by case",
         r#""Way""#,
         r#""mark""#,
+        "Ok",
+    ),
+    (
+        "property names that differ by case",
+        r#""size""#,
+        r#""Label""#,
         "Ok",
     ),
     (
@@ -429,4 +492,72 @@ pub static ENDS: [(&str, &str); 25] = [
         r#"type=[{name="A",property=[{name="a",kind="line",zoo=1},{name="a"}]}]"#,
         "Key zoo",
     ),
+];
+
+// Files that end behind one of the top keys, and the line: the next key in the order of judging.
+pub static STARTS: [(&str, &str); 5] = [
+    ("zoo=1", "Key title"),
+    ("title='T'", "Key address"),
+    ("title='T'\naddress='A'", "Key namespace"),
+    ("title='T'\naddress='A'\nnamespace='N'", "Key prefix"),
+    (
+        "title='T'\naddress='A'\nnamespace='N'\nprefix='p'",
+        "Key srs",
+    ),
+];
+
+// Characters, and the lines of types that are named by one of them, and by one behind a letter. They are those at the ends
+// of what names are made of, and those beside them.
+pub static CHARACTERS: [(&str, &str, &str); 3] = [
+    ("AZ_az", "Ok", "Ok"),
+    ("09", "Key name", "Ok"),
+    ("/:@[^`{", "Key name", "Key name"),
+];
+
+// A text of `MARKS`, what stands in its place, and the signature.
+pub static SIGNED: [(&str, &str, &str); 3] = [
+    (
+        r#""integer""#,
+        r#""boolean""#,
+        "Mark(label:text,size:boolean,place:point);Field(name:text,area:polygon);Way(course:line);",
+    ),
+    (
+        r#"[ {name="course", kind="line"} ]"#,
+        "[]",
+        "Mark(label:text,size:integer,place:point);Field(name:text,area:polygon);Way();",
+    ),
+    (
+        "required=true, max=40",
+        "max=4",
+        "Mark(label:text,size:integer,place:point);Field(name:text,area:polygon);Way(course:line);",
+    ),
+];
+
+// A text of `MARKS`, what stands in its place, and a property that there is then.
+pub static PROPERTIES: [(&str, &str, &str, ValueKind, bool, u32); 4] = [
+    (
+        r#""integer""#,
+        r#""boolean""#,
+        "size",
+        ValueKind::Truth,
+        false,
+        4096,
+    ),
+    (
+        r#""integer""#,
+        r#""integer", required=true"#,
+        "size",
+        ValueKind::Whole,
+        true,
+        4096,
+    ),
+    (
+        "required=true",
+        "required=false",
+        "label",
+        ValueKind::Words,
+        false,
+        40,
+    ),
+    ("max=40", "max=1", "label", ValueKind::Words, true, 1),
 ];

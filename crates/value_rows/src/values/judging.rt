@@ -82,13 +82,14 @@ fn is_unknown(alloc: Global, schema: &Schema, kind: u32) -> Mem<bool> {
     Ok(fits(schema, &field) == Err(ValueFault::Unknown))
 }
 
-// Whether a mark's values are refused under each of these numbers of types.
+// Whether a mark's values are refused under each of these numbers of types, and one value alone under its own.
 fn are_unknown(alloc: Global) -> Mem<bool> {
     let schema = schema(alloc)?;
     Ok(
         is_unknown(alloc, &schema, 1)?
             && is_unknown(alloc, &schema, 2)?
-            && is_unknown(alloc, &schema, 4_294_967_295)?,
+            && is_unknown(alloc, &schema, 4_294_967_295)?
+            && fault_of_one(alloc, &schema, Value::Null)? == Some(ValueFault::Unknown),
     )
 }
 
@@ -170,7 +171,7 @@ fn requires_values(rt: HostRuntime) {
     }
 }
 
-static ORDERS: [(Sketch, Sketch, Option<Ordering>); 8] = [
+static ORDERS: [(Sketch, Sketch, Option<Ordering>); 13] = [
     (
         Sketch::Words("Z"),
         Sketch::Words("\u{e4}"),
@@ -180,6 +181,31 @@ static ORDERS: [(Sketch, Sketch, Option<Ordering>); 8] = [
         Sketch::Words("\u{e4}"),
         Sketch::Words("\u{e4}"),
         Some(Ordering::Equal),
+    ),
+    (
+        Sketch::Words("a"),
+        Sketch::Words("ab"),
+        Some(Ordering::Less),
+    ),
+    (
+        Sketch::Words("b"),
+        Sketch::Words("aB"),
+        Some(Ordering::Greater),
+    ),
+    (
+        Sketch::Words("Z"),
+        Sketch::Words("a"),
+        Some(Ordering::Less),
+    ),
+    (
+        Sketch::Words("\u{fffd}"),
+        Sketch::Words("\u{1f5fa}"),
+        Some(Ordering::Less),
+    ),
+    (
+        Sketch::Whole(-9_223_372_036_854_775_808),
+        Sketch::Whole(9_223_372_036_854_775_807),
+        Some(Ordering::Less),
     ),
     (
         Sketch::Whole(9),

@@ -5,7 +5,7 @@ use feature_values::{FeatureType, Schema, read_rid, without_prefix};
 use std::alloc::Global;
 use wfs_ends::Mem;
 
-static IDS: [(&str, Option<(u32, u64)>); 18] = [
+static IDS: [(&str, Option<(u32, u64)>); 20] = [
     ("Mark.1", Some((0, 1))),
     ("Field.20", Some((1, 20))),
     (
@@ -25,6 +25,8 @@ static IDS: [(&str, Option<(u32, u64)>); 18] = [
     ("Mark", None),
     ("Mark.1.2", None),
     ("mark.1", None),
+    ("m:Mark.1", None),
+    ("Marks.1", None),
     (".1", None),
     ("", None),
 ];
