@@ -68,7 +68,7 @@ const SECOND: LockId = LockId {
     number: 2,
 };
 
-static CASES: [Case; 15] = [
+static CASES: [Case; 16] = [
     (
         "all, of which one is held",
         1000,
@@ -116,6 +116,14 @@ static CASES: [Case; 15] = [
         Answer::Page(3, &[1], Some(SECOND)),
         Kept::Nothing,
         Work::Grant(&[1]),
+    ),
+    (
+        "the whole of such a page",
+        1000,
+        Ask::Page(Take::AllOrNone, 0, 2),
+        Answer::Refused(20, "Mark.2"),
+        Kept::Nothing,
+        Work::Nothing,
     ),
     (
         "a new deadline",

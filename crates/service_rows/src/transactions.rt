@@ -41,7 +41,7 @@ type Case = (
     &'static [u64],
 );
 
-static CASES: [Case; 11] = [
+static CASES: [Case; 15] = [
     (
         "a mark that is locked, without a lock",
         None,
@@ -61,6 +61,19 @@ static CASES: [Case; 11] = [
         1000,
         &[Deed::Update(Some(1), 5)],
         Some((19, "Mark.1")),
+        &[],
+        (&[], &[], &[], 0),
+        &[],
+    ),
+    (
+        "under the lock of the first of two",
+        Some(LockId {
+            opening: 1,
+            number: 1,
+        }),
+        1000,
+        &[Deed::Update(None, 5)],
+        Some((19, "Mark.2")),
         &[],
         (&[], &[], &[], 0),
         &[],
@@ -105,6 +118,19 @@ static CASES: [Case; 11] = [
         &[],
     ),
     (
+        "the same, where another lock holds what goes",
+        Some(LockId {
+            opening: 2,
+            number: 1,
+        }),
+        1000,
+        &[Deed::Delete(Some(2))],
+        Some((15, "lockId")),
+        &[],
+        (&[], &[], &[], 0),
+        &[],
+    ),
+    (
         "nothing at all",
         Some(LockId {
             opening: 1,
@@ -136,6 +162,26 @@ static CASES: [Case; 11] = [
         &[],
         (&[], &[], &[], 0),
         &[],
+    ),
+    (
+        "a Replace of both, which are locked",
+        None,
+        1000,
+        &[Deed::Replace(None, 7)],
+        Some((17, "Filter")),
+        &[],
+        (&[], &[], &[], 0),
+        &[],
+    ),
+    (
+        "both go",
+        None,
+        1100,
+        &[Deed::Delete(None)],
+        None,
+        &[(1, None), (2, None)],
+        (&[], &[], &[], 2),
+        &[1, 2],
     ),
     (
         "two come, each under a number of its own",

@@ -35,11 +35,16 @@ fn mark_type(alloc: Global) -> Mem<List<FeatureType>>
     Ok(List::of(types))
 }
 
-/// A schema whose one type is Mark, with a size.
-pub fn schema(alloc: Global) -> Mem<Schema>
-    ensures { IfOk result AreMarks }
+fn feature_type(alloc: Global, name: &str) -> Mem<FeatureType> {
+    Ok(FeatureType {
+        name: Text::of(alloc, name)?,
+        properties: size(alloc)?,
+    })
+}
+
+fn schema_of(alloc: Global, types: List<FeatureType>) -> Mem<Schema>
+    ensures { IfOk result (λ schema. schema.types ≡ types) }
 {
-    let types = mark_type(alloc)?;
     Ok(Schema {
         title: Text::of(alloc, "Marks")?,
         address: Text::of(alloc, "http://localhost/wfs")?,
@@ -50,6 +55,21 @@ pub fn schema(alloc: Global) -> Mem<Schema>
     })
 }
 
+/// A schema whose one type is Mark, with a size.
+pub fn schema(alloc: Global) -> Mem<Schema>
+    ensures { IfOk result AreMarks }
+{
+    schema_of(alloc, mark_type(alloc)?)
+}
+
+/// A schema of two types with a size each.
+pub fn two_types(alloc: Global) -> Mem<Schema> {
+    let mut types = Vec::new(alloc);
+    types.push(feature_type(alloc, "Mark")?)?;
+    types.push(feature_type(alloc, "Spot")?)?;
+    schema_of(alloc, List::of(types))
+}
+
 /// The identifier of a mark.
 pub fn mark(number: u64) -> Rid
     ensures { result ≡ record { kind = 0; number = number } }
@@ -57,14 +77,14 @@ pub fn mark(number: u64) -> Rid
     Rid { kind: 0, number }
 }
 
-/// A mark that comes.
-pub fn new_mark(alloc: Global, schema: &Schema) -> Mem<Feature>
-    ensures id { IfOk result (λ f. f.id ≡ record { kind = 0; number = 0 }) }
+/// A feature of this type that comes.
+pub fn new_feature(alloc: Global, schema: &Schema, kind: u32) -> Mem<Feature>
+    ensures id { IfOk result (λ f. f.id ≡ record { kind = kind; number = 0 }) }
     ensures fits { IfOk result (λ f. feature_fits schema.now f ≡ Ok tt) }
 {
     let mut values = Vec::new(alloc);
     values.push(Value::Whole(10))?;
-    let feature = Feature::of(alloc, mark(0), values)?;
+    let feature = Feature::of(alloc, Rid { kind, number: 0 }, values)?;
     match fits(schema, &feature) {
         Ok(()) => Ok(feature),
         Err(_) => Err(OutOfMemory),

@@ -6,14 +6,14 @@ ghost use Rattle.wfs_model.specs.Changing.{IsChange};
 ghost use Rattle.wfs_model.specs.OfSchema.{IsOfSchema};
 ghost use Rattle.service_state.specs.Running.{IsStepOf};
 
-use crate::asks::{Ask, request};
-use crate::marks::{first_state, schema};
+use crate::asks::{Ask, insertion, request};
+use crate::marks::{first_state, schema, two_types};
 use feature_values::Schema;
 use lock_table::LockId;
 use service_state::{PrepareFault, ServiceState};
 use std::alloc::Global;
 use wfs_ends::Mem;
-use wfs_model::{FullAt, LimitName, Limits, Reply, Request};
+use wfs_model::{FullAt, LimitName, Limits, Made, Reply, Request};
 
 /// What a step comes to.
 #[derive(Clone, Copy)]
@@ -22,6 +22,8 @@ enum Outcome {
     Inserted(u64),
     /// So many marks were deleted.
     Deleted(u64),
+    /// This mark was inserted, and one was deleted.
+    Exchanged(u64),
     Locked(LockId),
     Created,
     /// The row of the refusal.
@@ -33,6 +35,9 @@ enum Outcome {
 /// What is shown, the moment that is handed in, what is asked, and what it comes to.
 type Step = (&'static str, u64, Ask, Outcome);
 
+/// How many features, numbers of a type, live locks and stored queries there may be.
+type Most = (u8, u8, u8, u8);
+
 const FIRST: LockId = LockId {
     opening: 1,
     number: 1,
@@ -42,6 +47,9 @@ const SECOND: LockId = LockId {
     opening: 1,
     number: 2,
 };
+
+/// The limits of the first table.
+const MOST: Most = (3, 4, 1, 1);
 
 /// With at most three marks, four numbers, one live lock and one stored query.
 static STEPS: [Step; 18] = [
@@ -140,16 +148,83 @@ static STEPS: [Step; 18] = [
     ),
 ];
 
-// The limits, where so many locks may live.
-fn limits(locks: u16) -> Limits {
+/// Behind the first three steps, each under limits of its own.
+static LIMITED: [(Most, Step); 6] = [
+    (
+        (9, 9, 0, 9),
+        (
+            "one lock more, where more live than may",
+            1000,
+            Ask::Lock(2),
+            Outcome::Full(LimitName::Locks, 1),
+        ),
+    ),
+    (
+        (9, 9, 0, 9),
+        (
+            "a mark, where more locks live than may",
+            1000,
+            Ask::Insert,
+            Outcome::Inserted(3),
+        ),
+    ),
+    (
+        (2, 9, 9, 9),
+        (
+            "one of all marks that may stand goes, and another comes",
+            1000,
+            Ask::Exchange(2),
+            Outcome::Exchanged(3),
+        ),
+    ),
+    (
+        (2, 2, 9, 9),
+        (
+            "one mark and one number more than may be",
+            1000,
+            Ask::Insert,
+            Outcome::Full(LimitName::Features, 2),
+        ),
+    ),
+    (
+        (9, 3, 9, 9),
+        (
+            "two numbers, of which one may be given",
+            1000,
+            Ask::InsertTwo,
+            Outcome::Full(LimitName::Ids, 2),
+        ),
+    ),
+    (
+        (9, 9, 9, 1),
+        (
+            "two stored queries, of which one may be",
+            1000,
+            Ask::CreateTwo("urn:x:one", "urn:x:two"),
+            Outcome::Full(LimitName::Stored, 0),
+        ),
+    ),
+];
+
+/// The type of what is inserted, and what it comes to, where one number of each type may be given.
+type Insertion = (&'static str, u32, Outcome);
+
+static INSERTIONS: [Insertion; 3] = [
+    ("a number of the second type", 1, Outcome::Inserted(1)),
+    ("one more of it", 1, Outcome::Full(LimitName::Ids, 1)),
+    ("a number of the first type", 0, Outcome::Inserted(1)),
+];
+
+fn limits(most: Most) -> Limits {
+    let (features, ids, locks, stored) = most;
     let stated = Limits::stated();
     Limits {
         entries: stated.entries,
         bytes: stated.bytes,
-        features: 3,
-        ids: 4,
+        features: u64::from(features),
+        ids: u64::from(ids),
         locks: u64::from(locks),
-        stored: 1,
+        stored: u64::from(stored),
         side: stated.side,
     }
 }
@@ -172,6 +247,19 @@ fn step(
     Ok(state.carry(plan, moment))
 }
 
+fn is_one(inserted: &[Made], number: u64) -> bool {
+    inserted.len() == 1 && inserted[0].id.number == number
+}
+
+fn is_transacted(deleted: u64, inserted: &[Made], wanted: Outcome) -> bool {
+    match wanted {
+        Outcome::Inserted(number) => deleted == 0 && is_one(inserted, number),
+        Outcome::Deleted(gone) => deleted == gone && inserted.is_empty(),
+        Outcome::Exchanged(number) => deleted == 1 && is_one(inserted, number),
+        _ => false,
+    }
+}
+
 fn is_outcome(outcome: &Result<Reply, PrepareFault>, wanted: Outcome) -> bool {
     match (outcome, wanted) {
         (
@@ -182,20 +270,8 @@ fn is_outcome(outcome: &Result<Reply, PrepareFault>, wanted: Outcome) -> bool {
                     ..
                 },
             ),
-            Outcome::Inserted(number),
-        ) => *deleted == 0
-            && inserted.items().len() == 1
-            && inserted.items()[0].id.number == number,
-        (
-            Ok(
-                Reply::Transacted {
-                    deleted,
-                    inserted,
-                    ..
-                },
-            ),
-            Outcome::Deleted(gone),
-        ) => *deleted == gone && inserted.items().is_empty(),
+            _,
+        ) => is_transacted(*deleted, inserted.items(), wanted),
         (Ok(Reply::Locked { lock, .. }), Outcome::Locked(id)) => *lock == Some(id),
         (Ok(Reply::Created), Outcome::Created) => true,
         (Ok(Reply::Refused(refusal)), Outcome::Refused(row)) => refusal.row == row,
@@ -206,14 +282,20 @@ fn is_outcome(outcome: &Result<Reply, PrepareFault>, wanted: Outcome) -> bool {
     }
 }
 
-fn comes_to(alloc: Global, schema: &Schema, state: &mut ServiceState, row: &Step) -> Mem<bool>
+fn comes_to(
+    alloc: Global,
+    schema: &Schema,
+    state: &mut ServiceState,
+    most: Most,
+    row: &Step,
+) -> Mem<bool>
     requires marks { AreMarks schema.now }
     requires schema { state.old.schema ≡ schema.now }
     ensures { state.new.schema ≡ state.old.schema }
 {
     let (_, moment, ask, outcome) = *row;
     let request = request(alloc, schema, ask)?;
-    Ok(is_outcome(&step(state, moment, &request, &limits(1)), outcome))
+    Ok(is_outcome(&step(state, moment, &request, &limits(most)), outcome))
 }
 
 fn first_of(
@@ -227,7 +309,7 @@ fn first_of(
     ensures { state.new.schema ≡ state.old.schema }
 {
     for row in rows {
-        if !comes_to(alloc, schema, state, row)? {
+        if !comes_to(alloc, schema, state, MOST, row)? {
             return Ok(Some(row.0));
         }
     }
@@ -267,31 +349,62 @@ fn steps_come_to_what_was_worked_out(rt: HostRuntime) {
     assert_eq!(rt; first_wrong(rt.alloc()), Ok((None, [2, 4, 2, 1119, 1])));
 }
 
-// What is told of one more lock, where one lives and none may any more.
-fn lock_above(alloc: Global, schema: &Schema, state: &mut ServiceState) -> Mem<Option<FullAt>>
-    requires marks { AreMarks schema.now }
-    requires schema { state.old.schema ≡ schema.now }
-{
-    let request = request(alloc, schema, Ask::Lock(2))?;
-    match step(state, 1000, &request, &limits(0)) {
-        Err(PrepareFault::Full(at)) => Ok(Some(at)),
-        _ => Ok(None),
-    }
-}
-
-// The first three steps, and that one.
-fn told_above(alloc: Global) -> Mem<(Option<&'static str>, Option<FullAt>)> {
+// A step behind the first three.
+fn holds(alloc: Global, most: Most, row: &Step) -> Mem<bool> {
     let schema = schema(alloc)?;
     let mut state = first_state(alloc, &schema)?;
-    let wrong = first_of(alloc, &schema, &mut state, &STEPS[..3])?;
-    Ok((wrong, lock_above(alloc, &schema, &mut state)?))
+    if first_of(alloc, &schema, &mut state, &STEPS[..3])?.is_some() {
+        return Ok(false);
+    }
+    comes_to(alloc, &schema, &mut state, most, row)
+}
+
+fn first_limited(alloc: Global) -> Mem<Option<&'static str>> {
+    for row in LIMITED.iter() {
+        let (most, step) = *row;
+        if !holds(alloc, most, &step)? {
+            return Ok(Some(step.0));
+        }
+    }
+    Ok(None)
 }
 
 #[test]
-fn more_than_the_limit_is_told_as_it_is(rt: HostRuntime) {
-    let one_lives = FullAt {
-        limit: LimitName::Locks,
-        number: 1,
-    };
-    assert_eq!(rt; told_above(rt.alloc()), Ok((None, Some(one_lives))));
+fn limits_are_passed_by_what_becomes_greater(rt: HostRuntime) {
+    assert_eq!(rt; first_limited(rt.alloc()), Ok(None));
+}
+
+fn inserts(alloc: Global, schema: &Schema, state: &mut ServiceState, row: &Insertion) -> Mem<bool>
+    requires { state.old.schema ≡ schema.now }
+    ensures { state.new.schema ≡ state.old.schema }
+{
+    let (_, kind, outcome) = *row;
+    let request = insertion(alloc, schema, kind)?;
+    Ok(is_outcome(&step(state, 1000, &request, &limits((9, 1, 9, 9))), outcome))
+}
+
+fn first_inserted(
+    alloc: Global,
+    schema: &Schema,
+    state: &mut ServiceState,
+) -> Mem<Option<&'static str>>
+    requires { state.old.schema ≡ schema.now }
+{
+    for row in INSERTIONS.iter() {
+        if !inserts(alloc, schema, state, row)? {
+            return Ok(Some(row.0));
+        }
+    }
+    Ok(None)
+}
+
+fn first_of_types(alloc: Global) -> Mem<Option<&'static str>> {
+    let schema = two_types(alloc)?;
+    let mut state = first_state(alloc, &schema)?;
+    first_inserted(alloc, &schema, &mut state)
+}
+
+#[test]
+fn numbers_are_given_by_type(rt: HostRuntime) {
+    assert_eq!(rt; first_of_types(rt.alloc()), Ok(None));
 }
