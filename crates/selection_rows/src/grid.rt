@@ -22,7 +22,7 @@ static PLACED: [(u64, [i64; 4]); 9] = [
     (8, [-65_536, 0, -65_536, 0]),
 ];
 
-static ASKED: [([i64; 4], &[u64]); 11] = [
+static ASKED: [([i64; 4], &[u64]); 13] = [
     ([5, 5, 6, 6], &[1, 4, 5, 7]),
     ([65_535, 0, 65_536, 0], &[1, 2, 4, 5, 7]),
     ([-5, -5, -4, -4], &[3, 5, 7]),
@@ -41,6 +41,13 @@ static ASKED: [([i64; 4], &[u64]); 11] = [
     ),
     (
         [-1_000_000_000, -1_000_000_000, 1_000_000_000, 1_000_000_000],
+        &[1, 2, 3, 4, 5, 6, 7, 8],
+    ),
+    // 256 times 256 cells, where no pair stands
+    ([0, -900_005_888, 16_777_215, -883_228_673], &[5, 7]),
+    // 21,846 times 3 cells, which are 65,538
+    (
+        [-715_849_728, -900_005_888, 715_849_727, -899_809_281],
         &[1, 2, 3, 4, 5, 6, 7, 8],
     ),
 ];
@@ -139,17 +146,25 @@ fn one_of_two_equal_pairs_is_removed(rt: HostRuntime) {
     assert_eq!(rt; twice_removed_hold(rt.alloc()), Ok(true));
 }
 
-// features 1 to 3 in one cell, the second in three others besides, and which are left after one was removed
+// features 1 to 3 in one cell, the second in three others besides
 static TOGETHER: [(u64, [i64; 4]); 3] = [
     (1, [0, 0, 1, 1]),
     (2, [65_535, 65_535, 65_536, 65_536]),
     (3, [7, 7, 7, 7]),
 ];
 
-static LEFT: [&[u64]; 3] = [&[2, 3], &[1, 3], &[1, 2]];
+// Which are left after a pair was removed.
+static LEFT: [((u64, [i64; 4]), &[u64]); 5] = [
+    ((1, [0, 0, 1, 1]), &[2, 3]),
+    ((2, [65_535, 65_535, 65_536, 65_536]), &[1, 3]),
+    ((3, [7, 7, 7, 7]), &[1, 2]),
+    // a feature that is there with another box, and a box that another feature has
+    ((3, [7, 7, 7, 8]), &[1, 2, 3]),
+    ((9, [7, 7, 7, 7]), &[1, 2, 3]),
+];
 
 fn first_wrong_left(alloc: Global) -> Mem<Option<usize>> {
-    for (i, (pair, left)) in TOGETHER.iter().zip(&LEFT).enumerate() {
+    for (i, (pair, left)) in LEFT.iter().enumerate() {
         let mut grid = filled(alloc, &TOGETHER)?;
         remove(&mut grid, pair);
         if !answers(alloc, &grid, &[5, 5, 6, 6], left)? {
@@ -162,6 +177,27 @@ fn first_wrong_left(alloc: Global) -> Mem<Option<usize>> {
 #[test]
 fn the_others_of_a_cell_stay(rt: HostRuntime) {
     assert_eq!(rt; first_wrong_left(rt.alloc()), Ok(None));
+}
+
+// Features of two types under one number, in one place: how many are near, and how many after one was removed.
+fn two_types_hold(alloc: Global) -> Mem<(usize, usize)> {
+    let mut grid = filled(alloc, &TOGETHER[..1])?;
+    let Some(area) = box_of(&TOGETHER[0].1) else {
+        return Ok((0, 0));
+    };
+    let other = Rid { kind: 1, number: 1 };
+    let mut areas = Vec::new(alloc);
+    areas.push(area)?;
+    grid.reserve(&List::of(areas))?;
+    grid.add(other, area);
+    let both = grid.near(alloc, &area)?.items().len();
+    grid.remove(other, area);
+    Ok((both, grid.near(alloc, &area)?.items().len()))
+}
+
+#[test]
+fn features_of_two_types_are_two(rt: HostRuntime) {
+    assert_eq!(rt; two_types_hold(rt.alloc()), Ok((2, 1)));
 }
 
 static MOVED: [(u64, [i64; 4]); 2] = [(1, [200_000, 0, 200_000, 0]), (2, [400_000, 0, 400_000, 0])];

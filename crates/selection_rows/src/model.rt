@@ -11,7 +11,7 @@ use wfs_model::{
 };
 
 // Numbers of 32 bits, as they may be written.
-static COUNTS: [(&str, Option<u32>); 7] = [
+static COUNTS: [(&str, Option<u32>); 10] = [
     ("0", Some(0)),
     ("4294967295", Some(4_294_967_295)),
     ("007", Some(7)),
@@ -19,6 +19,10 @@ static COUNTS: [(&str, Option<u32>); 7] = [
     ("+1", None),
     (" 1", None),
     ("", None),
+    // more digits than any number of 32 bits has
+    ("000000000001", Some(1)),
+    ("-0", None),
+    ("1 ", None),
 ];
 
 fn first_miscounted() -> Option<&'static str> {
@@ -37,7 +41,7 @@ fn counts_are_digits_of_32_bits(rt: HostRuntime) -> Result<(), Fail> {
 }
 
 // A text, whether it is a version of the service, and whether it names GML 3.2.
-static WORDS: [(&str, bool, bool); 7] = [
+static WORDS: [(&str, bool, bool); 10] = [
     ("2.0.0", true, false),
     ("2.0.2", true, false),
     ("2.0.1", false, false),
@@ -45,6 +49,9 @@ static WORDS: [(&str, bool, bool); 7] = [
     ("text/xml; subtype=gml/3.2", false, true),
     ("text/xml; subtype=gml/3.2.1", false, true),
     ("text/xml", false, false),
+    ("2.0", false, false),
+    ("application/gml+xml;version=3.2", false, false),
+    ("TEXT/XML; SUBTYPE=GML/3.2", false, false),
 ];
 
 fn first_misread() -> Option<&'static str> {
@@ -86,6 +93,10 @@ fn a_link_has_start_and_count(rt: HostRuntime) -> Result<(), Fail> {
     assert_eq!(rt;
         page_link(rt.alloc(), &link, 0, 2)?.as_str(),
         "http://h/wfs?a=b&startIndex=0&count=2"
+    );
+    assert_eq!(rt;
+        page_link(rt.alloc(), &link, 4_294_967_296, u64::MAX)?.as_str(),
+        "http://h/wfs?a=b&startIndex=4294967296&count=18446744073709551615"
     );
     Ok(())
 }
@@ -195,7 +206,16 @@ fn copies_are_equal(rt: HostRuntime) -> Result<(), Fail> {
 }
 
 #[test]
-fn a_side_has_at_most_256_mebibytes(rt: HostRuntime) -> Result<(), Fail> {
-    assert_eq!(rt; Limits::stated().side, 256 * 1024 * 1024);
+fn the_limits_are_those_stated(rt: HostRuntime) -> Result<(), Fail> {
+    let stated = Limits {
+        entries: 1_000_000,
+        bytes: 256 * 1024 * 1024,
+        features: 1_000_000,
+        ids: 1_000_000_000_000,
+        locks: 65_536,
+        stored: 1_000,
+        side: 256 * 1024 * 1024,
+    };
+    assert_eq!(rt; Limits::stated(), stated);
     Ok(())
 }

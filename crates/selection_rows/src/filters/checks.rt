@@ -4,7 +4,7 @@ use super::Side::{At, Null, Open, Truth, Whole, Words};
 use super::Sketch::{Apart, Between, Compare, Id, InBox, IsNull, Like, Meets};
 use super::*;
 use feature_values::{FeatureType, Property, Schema, ValueKind};
-use fes_filter::By::{Equal, Less, LessEqual, NotEqual};
+use fes_filter::By::{Equal, Greater, Less, LessEqual, NotEqual};
 use fes_filter::FilterFault::{Choice, TooLarge, Types, Unknown};
 use fes_filter::{FilterFault, check};
 
@@ -64,7 +64,7 @@ fn fault_for(
     Ok(check(&filter, kind, schema).err())
 }
 
-static RIGHT: [(&str, Sketch); 15] = [
+static RIGHT: [(&str, Sketch); 18] = [
     ("texts", Compare(Less, At(LABEL), Words("a"), false)),
     ("literal first", Compare(Less, Whole(1), At(SIZE), false)),
     ("parameter", Compare(Less, At(SIZE), Open, false)),
@@ -80,6 +80,9 @@ static RIGHT: [(&str, Sketch); 15] = [
     ("box for any", InBox(None, (0, 0), (1, 1))),
     ("meets", Meets(WAY, (0, 0))),
     ("apart", Apart(FIELD, (0, 0))),
+    ("flag is", Compare(Equal, At(FLAG), Truth(true), false)),
+    ("equal", Compare(Equal, At(LABEL), Words("a"), true)),
+    ("parameter first", Compare(Less, Open, At(SIZE), false)),
 ];
 
 // The first of `RIGHT` that is refused.
@@ -103,7 +106,7 @@ fn filters_that_a_type_allows(rt: HostRuntime) {
     assert_eq!(rt; refused_mark(rt.alloc()), Ok(None));
 }
 
-static WRONG: [(&str, Sketch, FilterFault); 25] = [
+static WRONG: [(&str, Sketch, FilterFault); 33] = [
     ("left", Compare(Equal, At(OTHER), Whole(1), false), Unknown),
     ("right", Compare(Equal, Whole(1), At(OTHER), false), Unknown),
     ("1st", Compare(Less, At(FLAG), At(OTHER), true), Unknown),
@@ -129,6 +132,14 @@ static WRONG: [(&str, Sketch, FilterFault); 25] = [
     ("meets", Meets(LABEL, (0, 0)), Types),
     ("order", Compare(Less, At(LABEL), Words("a"), true), Choice),
     ("size", Compare(Equal, At(SIZE), Whole(1), true), Choice),
+    ("truth", Compare(Equal, At(FLAG), Truth(true), true), Choice),
+    ("low", Between(SIZE, At(OTHER), Words("a")), Unknown),
+    ("apart", Apart(LABEL, (0, 0)), Types),
+    ("ways", Compare(Equal, At(WAY), At(WAY), false), Types),
+    ("spots", Compare(NotEqual, At(SPOT), At(SPOT), false), Types),
+    ("1", Compare(Equal, At(FLAG), Whole(1), false), Types),
+    ("after", Compare(Greater, At(FLAG), Truth(true), false), Types),
+    ("no property", Compare(Equal, Open, Whole(1), false), Types),
 ];
 
 // The first row of `WRONG` with another fault.
@@ -164,6 +175,8 @@ fn without_a_type(rt: HostRuntime) {
     assert_eq!(rt; fault_of_type(rt.alloc(), IsNull(LABEL), None), unknown);
     assert_eq!(rt; fault_of_type(rt.alloc(), IsNull(LABEL), Some(1)), unknown);
     assert_eq!(rt; fault_of_type(rt.alloc(), Id(0, 1), None), Ok(None));
+    let area = InBox(None, (0, 0), (1, 1));
+    assert_eq!(rt; fault_of_type(rt.alloc(), area, None), Ok(None));
 }
 
 // And over so many operators, of which one names a property that is not there.
@@ -213,4 +226,66 @@ fn miscounted_mark(alloc: Global) -> Mem<Option<usize>> {
 #[test]
 fn operators_are_counted(rt: HostRuntime) {
     assert_eq!(rt; miscounted_mark(rt.alloc()), Ok(None));
+}
+
+// Or over so many operators of one sort.
+fn fault_of_or(alloc: Global, schema: &Schema, part: Sketch, count: u32) -> Mem<Option<FilterFault>> {
+    let mut all = Vec::new(alloc);
+    for _ in 0..count {
+        all.push(filter(alloc, part)?)?;
+    }
+    let filter = Filter::Either(List::of(all));
+    Ok(check(&filter, Some(0), schema).err())
+}
+
+/// One of each sort that has no parts.
+static SORTS: [(&str, Sketch); 8] = [
+    ("compare", Compare(Equal, At(SIZE), Whole(1), false)),
+    ("like", Like(LABEL)),
+    ("null", IsNull(LABEL)),
+    ("between", Between(SIZE, Whole(1), Whole(2))),
+    ("ids", Id(0, 1)),
+    ("box", InBox(None, (0, 0), (1, 1))),
+    ("meets", Meets(WAY, (0, 0))),
+    ("apart", Apart(WAY, (0, 0))),
+];
+
+// The first sort that does not count as one operator.
+fn uncounted(alloc: Global, schema: &Schema) -> Mem<Option<&'static str>> {
+    for row in SORTS.iter() {
+        let (name, part) = *row;
+        if fault_of_or(alloc, schema, part, 999)?.is_some()
+            || fault_of_or(alloc, schema, part, 1000)? != Some(TooLarge)
+        {
+            return Ok(Some(name));
+        }
+    }
+    Ok(None)
+}
+
+fn uncounted_of_mark(alloc: Global) -> Mem<Option<&'static str>> {
+    let schema = schema(alloc)?;
+    uncounted(alloc, &schema)
+}
+
+#[test]
+fn each_operator_counts(rt: HostRuntime) {
+    assert_eq!(rt; uncounted_of_mark(rt.alloc()), Ok(None));
+}
+
+// And over so many negations.
+fn fault_of_negations(alloc: Global, count: u32) -> Mem<Option<FilterFault>> {
+    let schema = schema(alloc)?;
+    let mut all = Vec::new(alloc);
+    for _ in 0..count {
+        all.push(negated(alloc, Filter::IsNull(LABEL))?)?;
+    }
+    let filter = Filter::Both(List::of(all));
+    Ok(check(&filter, Some(0), &schema).err())
+}
+
+#[test]
+fn negations_count(rt: HostRuntime) {
+    assert_eq!(rt; fault_of_negations(rt.alloc(), 499), Ok(None));
+    assert_eq!(rt; fault_of_negations(rt.alloc(), 500), Ok(Some(TooLarge)));
 }

@@ -28,7 +28,7 @@ fn parts(alloc: Global, text: &str) -> Mem<Vec<LikePart>> {
     Ok(parts)
 }
 
-static LIKES: [(&str, &str, bool); 44] = [
+static LIKES: [(&str, &str, bool); 48] = [
     ("A!*.", "A*b", true),
     ("A!*.", "Ab", false),
     ("A!*.", "A*", false),
@@ -77,6 +77,13 @@ static LIKES: [(&str, &str, bool); 44] = [
         "aäääääääääääääääääbäääääääääääääääääää",
         true,
     ),
+    // with its case
+    ("ab", "aB", false),
+    ("*a*", "xAx", false),
+    // of two characters that are written as one
+    ("..", "e\u{301}", true),
+    // over ends of lines
+    ("a.*b", "a\n\nb", true),
 ];
 
 fn pattern(alloc: Global, text: &str) -> Mem<Filter> {

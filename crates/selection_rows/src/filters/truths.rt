@@ -147,8 +147,65 @@ fn texts_by_their_bytes_or_without_case(rt: HostRuntime) {
     assert_eq!(rt; mistaken_text_of_mark(rt.alloc()), Ok(None));
 }
 
+/// Labels, and texts that are equal to them without case or not: by full folding, not by that of Turkic languages, and
+/// without composing characters.
+static FOLDINGS: [(&str, &str, bool); 5] = [
+    ("Σ", "ς", true),
+    ("ﬁ", "FI", true),
+    ("İ", "i\u{307}", true),
+    ("I", "ı", false),
+    ("é", "e\u{301}", false),
+];
+
+// The first row of `FOLDINGS` of which something else is said.
+fn mistaken_folding(alloc: Global) -> Mem<Option<usize>> {
+    for i in 0..FOLDINGS.len() {
+        let (label, text, wanted) = FOLDINGS[i];
+        let feature = mark(alloc, label)?;
+        if !is_said(
+            alloc,
+            &feature,
+            Compare(Equal, At(LABEL), Words(text), true),
+            wanted,
+        )? {
+            return Ok(Some(i));
+        }
+    }
+    Ok(None)
+}
+
+#[test]
+fn texts_by_their_full_foldings(rt: HostRuntime) {
+    assert_eq!(rt; mistaken_folding(rt.alloc()), Ok(None));
+}
+
+/// Of a mark whose label is empty, which is no null.
+static EMPTY: [(Sketch, bool); 4] = [
+    (IsNull(LABEL), false),
+    (Compare(Equal, At(LABEL), Words(""), false), true),
+    (Compare(Less, At(LABEL), Words("a"), false), true),
+    (Between(LABEL, Words(""), Words("")), true),
+];
+
+// The first row of `EMPTY` of which something else is said.
+fn mistaken_empty(alloc: Global) -> Mem<Option<usize>> {
+    let feature = mark(alloc, "")?;
+    for i in 0..EMPTY.len() {
+        let (sketch, wanted) = EMPTY[i];
+        if !is_said(alloc, &feature, sketch, wanted)? {
+            return Ok(Some(i));
+        }
+    }
+    Ok(None)
+}
+
+#[test]
+fn an_empty_text_is_no_null(rt: HostRuntime) {
+    assert_eq!(rt; mistaken_empty(rt.alloc()), Ok(None));
+}
+
 /// Of a mark with the label STRASSE.
-static OTHERS: [(&str, Sketch, bool); 33] = [
+static OTHERS: [(&str, Sketch, bool); 35] = [
     ("flag", Compare(Equal, At(FLAG), Truth(true), false), true),
     (
         "null text",
@@ -194,6 +251,8 @@ static OTHERS: [(&str, Sketch, bool); 33] = [
     ("field apart", Apart(FIELD, (5, 5)), false),
     ("hole apart", Apart(FIELD, (3, 3)), true),
     ("null apart", Apart(SPOT, (5, 5)), true),
+    ("texts", Between(LABEL, Words("S"), Words("T")), true),
+    ("with case", Between(LABEL, Words("a"), Words("z")), false),
 ];
 
 // What the first of `OTHERS` is of which something else is said.
