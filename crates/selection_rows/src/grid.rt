@@ -62,11 +62,11 @@ fn mark(number: u64) -> Rid {
     Rid { kind: 0, number }
 }
 
-fn put(alloc: Global, grid: &mut Grid, number: u64, area: Box2) -> Mem<()> {
+fn put(alloc: Global, grid: &mut Grid, id: Rid, area: Box2) -> Mem<()> {
     let mut areas = Vec::new(alloc);
     areas.push(area)?;
     grid.reserve(&List::of(areas))?;
-    grid.add(mark(number), area);
+    grid.add(id, area);
     Ok(())
 }
 
@@ -75,7 +75,7 @@ fn filled(alloc: Global, pairs: &[(u64, [i64; 4])]) -> Mem<Grid> {
     let mut grid = Grid::new(alloc);
     for (number, corners) in pairs {
         if let Some(area) = box_of(corners) {
-            put(alloc, &mut grid, *number, area)?;
+            put(alloc, &mut grid, mark(*number), area)?;
         }
     }
     Ok(grid)
@@ -186,10 +186,7 @@ fn two_types_hold(alloc: Global) -> Mem<(usize, usize)> {
         return Ok((0, 0));
     };
     let other = Rid { kind: 1, number: 1 };
-    let mut areas = Vec::new(alloc);
-    areas.push(area)?;
-    grid.reserve(&List::of(areas))?;
-    grid.add(other, area);
+    put(alloc, &mut grid, other, area)?;
     let both = grid.near(alloc, &area)?.items().len();
     grid.remove(other, area);
     Ok((both, grid.near(alloc, &area)?.items().len()))
@@ -210,7 +207,7 @@ fn swept_hold(alloc: Global) -> Mem<bool> {
     }
     for pair in &MOVED {
         if let Some(area) = box_of(&pair.1) {
-            put(alloc, &mut grid, pair.0, area)?;
+            put(alloc, &mut grid, mark(pair.0), area)?;
         }
     }
     remove(&mut grid, &MOVED[0]);
@@ -218,7 +215,7 @@ fn swept_hold(alloc: Global) -> Mem<bool> {
     let left = answers(alloc, &grid, &TOGETHER[0].1, &[])?;
     let there = answers(alloc, &grid, &MOVED[1].1, &[2])?;
     if let Some(area) = box_of(&TOGETHER[2].1) {
-        put(alloc, &mut grid, 9, area)?;
+        put(alloc, &mut grid, mark(9), area)?;
     }
     Ok(left && there && answers(alloc, &grid, &TOGETHER[0].1, &[9])?)
 }

@@ -209,12 +209,12 @@ fn copies_are_equal(rt: HostRuntime) -> Result<(), Fail> {
 fn the_limits_are_those_stated(rt: HostRuntime) -> Result<(), Fail> {
     let stated = Limits {
         entries: 1_000_000,
-        bytes: 256 * 1024 * 1024,
+        bytes: 268_435_456,
         features: 1_000_000,
         ids: 1_000_000_000_000,
         locks: 65_536,
         stored: 1_000,
-        side: 256 * 1024 * 1024,
+        side: 268_435_456,
     };
     assert_eq!(rt; Limits::stated(), stated);
     Ok(())

@@ -138,7 +138,11 @@ static WRONG: [(&str, Sketch, FilterFault); 33] = [
     ("ways", Compare(Equal, At(WAY), At(WAY), false), Types),
     ("spots", Compare(NotEqual, At(SPOT), At(SPOT), false), Types),
     ("1", Compare(Equal, At(FLAG), Whole(1), false), Types),
-    ("after", Compare(Greater, At(FLAG), Truth(true), false), Types),
+    (
+        "after",
+        Compare(Greater, At(FLAG), Truth(true), false),
+        Types,
+    ),
     ("no property", Compare(Equal, Open, Whole(1), false), Types),
 ];
 
@@ -229,7 +233,12 @@ fn operators_are_counted(rt: HostRuntime) {
 }
 
 // Or over so many operators of one sort.
-fn fault_of_or(alloc: Global, schema: &Schema, part: Sketch, count: u32) -> Mem<Option<FilterFault>> {
+fn fault_of_or(
+    alloc: Global,
+    schema: &Schema,
+    part: Sketch,
+    count: u32,
+) -> Mem<Option<FilterFault>> {
     let mut all = Vec::new(alloc);
     for _ in 0..count {
         all.push(filter(alloc, part)?)?;
