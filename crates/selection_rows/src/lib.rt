@@ -7,3 +7,5 @@ mod filters;
 mod grid;
 #[cfg(test)]
 mod model;
+#[cfg(test)]
+mod orders;
