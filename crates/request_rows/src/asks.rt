@@ -13,8 +13,10 @@ use wfs_model::AskFault;
 // and the size of its entry.
 type Row = (&'static str, u8, &'static str, u32);
 
-static ROWS: [Row; 6] = [
+static ROWS: [Row; 9] = [
     ("GET / HTTP/1.1\r\nHost: h\r\n\r\n", 5, "path", 0),
+    ("GET /wfs/ HTTP/1.1\r\nHost: h\r\n\r\n", 5, "path", 0),
+    ("GET /WFS HTTP/1.1\r\nHost: h\r\n\r\n", 5, "path", 0),
     (
         "PUT /x?y HTTP/1.1\r\nHost: h\r\nContent-Length: 2\r\n\r\nab",
         5,
@@ -27,6 +29,7 @@ static ROWS: [Row; 6] = [
         "method",
         2,
     ),
+    ("HEAD /wfs?a HTTP/1.1\r\nHost: h\r\n\r\n", 6, "method", 0),
     (
         "POST /wfs HTTP/1.1\r\nHost: h\r\nContent-Length: 3\r\n\r\n<a>",
         7,

@@ -5,7 +5,7 @@ use wfs_ends::{Mem, OutOfMemory};
 use wfs_words::{Command, WordFault, directory, read_words};
 
 /// Words, what they ask for, and of which directory.
-static ROWS: [(&[&str], &str, &str); 67] = [
+static ROWS: [(&[&str], &str, &str); 69] = [
     (
         &["serve", "--workers=2", "DIR", "--listen", "127.0.0.1:0"],
         "serve 127.0.0.1:0 2",
@@ -16,6 +16,7 @@ static ROWS: [(&[&str], &str, &str); 67] = [
     (&["compact", "a b"], "compact", "a b"),
     (&["drill", "7", "d"], "drill 7", "d"),
     (&["drill", "+007", "d"], "drill 7", "d"),
+    (&["drill", "1", "d"], "drill 1", "d"),
     (&["drill", "100000", "d"], "drill 100000", "d"),
     (
         &["serve", "--listen", "a", "--workers", "2", "d"],
@@ -52,6 +53,11 @@ static ROWS: [(&[&str], &str, &str); 67] = [
             "d",
         ],
         "serve a 16 1000000",
+        "d",
+    ),
+    (
+        &["serve", "--listen=a", "--workers=2", "--connections=1", "d"],
+        "serve a 2 1",
         "d",
     ),
     (
