@@ -1,6 +1,6 @@
 //! Answers with features, with values of a property, and with one feature by itself; the service and its types.
 
-use crate::samples::{GML, XML, feature, flag, is_given, mark};
+use crate::samples::{GML, XML, feature, flag, is_escaped, is_given, mark};
 use feature_values::{Feature, Value};
 use geom_core::{Geometry, Pos};
 use std::alloc::Global;
@@ -137,7 +137,7 @@ fn features_are_members_with_the_values_that_they_have(rt: HostRuntime) {
 // ---- values
 
 const LABELS: &str =
-    "<?xml version=\"1.0\" encoding=\"UTF-8\"?><wfs:ValueCollection xmlns:wfs=\"http://www.opengis.net/wfs/2.0\" xmlns:gml=\"http://www.opengis.net/gml/3.2\" xmlns:m=\"http://example.org/marks\" timeStamp=\"1970-01-01T00:16:40Z\" numberMatched=\"4\" numberReturned=\"2\" next=\"http://h/wfs?a=b&amp;startIndex=2&amp;count=2\"><wfs:member><m:label>B</m:label></wfs:member><wfs:member><m:label/></wfs:member></wfs:ValueCollection>";
+    "<?xml version=\"1.0\" encoding=\"UTF-8\"?><wfs:ValueCollection xmlns:wfs=\"http://www.opengis.net/wfs/2.0\" xmlns:gml=\"http://www.opengis.net/gml/3.2\" xmlns:m=\"http://example.org/marks\" timeStamp=\"1970-01-01T00:16:40Z\" numberMatched=\"4\" numberReturned=\"2\" next=\"http://h/wfs?a=b&amp;startIndex=2&amp;count=2\" previous=\"http://h/wfs?a=b&amp;startIndex=0&amp;count=2\"><wfs:member><m:label>B</m:label></wfs:member><wfs:member><m:label/></wfs:member></wfs:ValueCollection>";
 
 const PLACES: &str =
     "<?xml version=\"1.0\" encoding=\"UTF-8\"?><wfs:ValueCollection xmlns:wfs=\"http://www.opengis.net/wfs/2.0\" xmlns:gml=\"http://www.opengis.net/gml/3.2\" xmlns:m=\"http://example.org/marks\" timeStamp=\"1970-01-01T00:16:40Z\" numberMatched=\"1\" numberReturned=\"1\"><wfs:member><m:place><gml:Point gml:id=\"Mark.1.place\" srsName=\"urn:ogc:def:crs:EPSG::25832\"><gml:pos>-12 7</gml:pos></gml:Point></m:place></wfs:member></wfs:ValueCollection>";
@@ -145,14 +145,20 @@ const PLACES: &str =
 const NO_VALUES: &str =
     "<?xml version=\"1.0\" encoding=\"UTF-8\"?><wfs:ValueCollection xmlns:wfs=\"http://www.opengis.net/wfs/2.0\" xmlns:gml=\"http://www.opengis.net/gml/3.2\" xmlns:m=\"http://example.org/marks\" timeStamp=\"1970-01-01T00:16:40Z\" numberMatched=\"3\" numberReturned=\"0\"/>";
 
-fn values_of(matched: u64, property: u32, features: List<Feature>, next: Option<Text>) -> Reply {
+fn values_of(
+    matched: u64,
+    property: u32,
+    features: List<Feature>,
+    next: Option<Text>,
+    previous: Option<Text>,
+) -> Reply {
     Reply::Values {
         moment: 1_000,
         matched,
         property,
         features,
         next,
-        previous: None,
+        previous,
     }
 }
 
@@ -161,15 +167,16 @@ fn labels_are_given(alloc: Global) -> Mem<bool> {
     all.push(mark(alloc, 2, "B", Value::Null, Value::Null)?)?;
     all.push(mark(alloc, 1, "", Value::Null, Value::Null)?)?;
     let next = Text::of(alloc, "http://h/wfs?a=b&startIndex=2&count=2")?;
-    let reply = values_of(4, 0, List::of(all), Some(next));
-    is_given(alloc, &reply, GML, 405, LABELS)
+    let previous = Text::of(alloc, "http://h/wfs?a=b&startIndex=0&count=2")?;
+    let reply = values_of(4, 0, List::of(all), Some(next), Some(previous));
+    is_given(alloc, &reply, GML, 462, LABELS)
 }
 
 fn places_are_given(alloc: Global) -> Mem<bool> {
     let place = Value::Shape(Geometry::At(Pos { x: -12, y: 7 }));
     let mut all = Vec::new(alloc);
     all.push(mark(alloc, 1, "A", Value::Null, place)?)?;
-    let reply = values_of(1, 2, List::of(all), None);
+    let reply = values_of(1, 2, List::of(all), None, None);
     is_given(alloc, &reply, GML, 423, PLACES)
 }
 
@@ -180,7 +187,7 @@ fn values_are_members(rt: HostRuntime) {
 }
 
 fn number_is_given(alloc: Global) -> Mem<bool> {
-    let reply = values_of(3, 1, List::of(Vec::new(alloc)), None);
+    let reply = values_of(3, 1, List::of(Vec::new(alloc)), None, None);
     is_given(alloc, &reply, GML, 251, NO_VALUES)
 }
 
@@ -227,4 +234,31 @@ fn the_service_says_what_it_offers(rt: HostRuntime) {
         is_given(rt.alloc(), &Reply::Capabilities, XML, 2_945, OFFERED),
         Ok(true)
     );
+}
+
+// ---- a namespace with characters that are escaped
+
+const ESCAPED_PAGE: &str =
+    "<?xml version=\"1.0\" encoding=\"UTF-8\"?><wfs:FeatureCollection xmlns:wfs=\"http://www.opengis.net/wfs/2.0\" xmlns:gml=\"http://www.opengis.net/gml/3.2\" xmlns:m=\"urn:x:&quot;a&amp;b\" timeStamp=\"1970-01-01T00:16:40Z\" numberMatched=\"0\" numberReturned=\"0\"/>";
+
+const ESCAPED_BARE: &str =
+    "<?xml version=\"1.0\" encoding=\"UTF-8\"?><m:Mark xmlns:gml=\"http://www.opengis.net/gml/3.2\" xmlns:m=\"urn:x:&quot;a&amp;b\" gml:id=\"Mark.2\"><m:label>B</m:label></m:Mark>";
+
+const ESCAPED_LIST: &str =
+    "<?xml version=\"1.0\" encoding=\"UTF-8\"?><wfs:ListStoredQueriesResponse xmlns:wfs=\"http://www.opengis.net/wfs/2.0\" xmlns:m=\"urn:x:&quot;a&amp;b\"/>";
+
+fn escaped_is_given(alloc: Global) -> Mem<bool> {
+    let none = page(1_000, 0, List::of(Vec::new(alloc)), None, None);
+    let feature = mark(alloc, 2, "B", Value::Null, Value::Null)?;
+    let stored = Reply::StoredList(List::of(Vec::new(alloc)));
+    Ok(
+        is_escaped(alloc, &none, GML, 248, ESCAPED_PAGE)?
+            && is_escaped(alloc, &Reply::Bare(feature), GML, 164, ESCAPED_BARE)?
+            && is_escaped(alloc, &stored, XML, 143, ESCAPED_LIST)?,
+    )
+}
+
+#[test]
+fn a_namespace_is_escaped(rt: HostRuntime) {
+    assert_eq!(rt; escaped_is_given(rt.alloc()), Ok(true));
 }

@@ -257,13 +257,17 @@ fn is_refusal(alloc: Global, reply: &Reply, row: Row) -> Mem<bool> {
     is_reported(alloc, reply, row)
 }
 
-fn is_refused(alloc: Global, row: Row) -> Mem<bool> {
-    let locator = Text::of(alloc, row.4)?;
+// Whether a refusal of this row that points at this is given as the row says.
+fn is_refused_at(alloc: Global, row: Row, locator: &str) -> Mem<bool> {
     let reply = Reply::Refused(Refusal {
         row: row.0,
-        locator,
+        locator: Text::of(alloc, locator)?,
     });
     is_refusal(alloc, &reply, row)
+}
+
+fn is_refused(alloc: Global, row: Row) -> Mem<bool> {
+    is_refused_at(alloc, row, row.4)
 }
 
 // The bytes of a refusal without a reply, in a sink that takes so many.
@@ -308,9 +312,38 @@ fn each_row_has_its_refusal(rt: HostRuntime) {
     assert_eq!(rt; first_wrong(rt.alloc()), Ok(None));
 }
 
+const ESCAPED: Row = (
+    8,
+    "400 Bad Request",
+    298,
+    "OperationParsingFailed",
+    "a&quot;&lt;&amp;",
+    "misplaced or malformed",
+);
+
+#[test]
+fn a_locator_is_escaped(rt: HostRuntime) {
+    assert_eq!(rt; is_refused_at(rt.alloc(), ESCAPED, "a\"<&"), Ok(true));
+}
+
 #[test]
 fn a_row_with_one_locator_is_refused_without_a_reply(rt: HostRuntime) {
     assert_eq!(rt; first_fixed_wrong(rt.alloc()), Ok(None));
+}
+
+// Whether a refusal of a number that is no row is the last row's.
+fn is_last(alloc: Global, number: u8) -> Mem<bool> {
+    let Some(last) = ROWS.last() else {
+        return Ok(false);
+    };
+    let expected = report(alloc, *last)?;
+    is_fixed(alloc, number, true, expected.as_bytes())
+}
+
+#[test]
+fn a_number_that_is_no_row_counts_as_the_last(rt: HostRuntime) {
+    assert_eq!(rt; is_last(rt.alloc(), 0), Ok(true));
+    assert_eq!(rt; is_last(rt.alloc(), 28), Ok(true));
 }
 
 const BAD: &str =

@@ -18,12 +18,16 @@ static FLAG: [Named; 2] = [
     ("lit", ValueKind::Truth, false),
 ];
 
-// Marks and flags.
-fn marks(alloc: Global) -> Mem<Schema> {
+// Marks and flags, in this namespace.
+fn marks_in(alloc: Global, space: &str) -> Mem<Schema> {
     let mut types = Vec::new(alloc);
     types.push(feature_type(alloc, "Mark", &MARK)?)?;
     types.push(feature_type(alloc, "Flag", &FLAG)?)?;
-    schema(alloc, "Marks", "http://example.org/marks", types)
+    schema(alloc, "Marks", space, types)
+}
+
+fn marks(alloc: Global) -> Mem<Schema> {
+    marks_in(alloc, "http://example.org/marks")
 }
 
 pub(crate) fn feature(alloc: Global, kind: u32, number: u64, values: Vec<Value>) -> Mem<Feature> {
@@ -56,11 +60,10 @@ pub(crate) const GML: &str = "application/gml+xml; version=3.2";
 
 pub(crate) const XML: &str = "text/xml";
 
-// The bytes of a reply. The connection ends after it where `close` says so.
-fn given(alloc: Global, reply: &Reply, close: bool) -> Mem<MemSink> {
-    let schema = marks(alloc)?;
+// The bytes of a reply over a schema. The connection ends after it where `close` says so.
+fn given(alloc: Global, reply: &Reply, schema: &Schema, close: bool) -> Mem<MemSink> {
     let mut sink = MemSink::new(alloc, 4_000, Vec::new(alloc))?;
-    let _ = put_reply(reply, &schema, close, &mut sink);
+    let _ = put_reply(reply, schema, close, &mut sink);
     Ok(sink)
 }
 
@@ -74,7 +77,8 @@ fn expected(alloc: Global, media: &str, size: u64, close: bool, body: &str) -> M
 
 // Whether a reply is put as these bytes.
 pub(crate) fn are_bytes(alloc: Global, reply: &Reply, close: bool, bytes: &[u8]) -> Mem<bool> {
-    let answer = given(alloc, reply, close)?;
+    let schema = marks(alloc)?;
+    let answer = given(alloc, reply, &schema, close)?;
     Ok(answer.bytes() == bytes)
 }
 
@@ -115,4 +119,18 @@ pub(crate) fn is_given_last(
     body: &str,
 ) -> Mem<bool> {
     is_put(alloc, reply, true, media, size, body)
+}
+
+// Whether a reply is given so where the namespace is one with characters that are escaped.
+pub(crate) fn is_escaped(
+    alloc: Global,
+    reply: &Reply,
+    media: &str,
+    size: u64,
+    body: &str,
+) -> Mem<bool> {
+    let schema = marks_in(alloc, "urn:x:\"a&b")?;
+    let text = expected(alloc, media, size, false, body)?;
+    let answer = given(alloc, reply, &schema, false)?;
+    Ok(answer.bytes() == text.as_bytes())
 }

@@ -41,7 +41,7 @@ const BUILT_IN: &str = "urn:ogc:def:query:OGC-WFS::GetFeatureById";
 const TEXT: &str =
     "<wfs:Query xmlns:wfs=\"http://www.opengis.net/wfs/2.0\" xmlns:fes=\"http://www.opengis.net/fes/2.0\" xmlns:gml=\"http://www.opengis.net/gml/3.2\" xmlns:m=\"http://example.org/marks\" typeNames=\"m:Flag\"/>";
 
-// The built-in query, one of two types with a title, and one of one type without.
+// The built-in query, one of two types with a title, one of one type without, and one that has nothing but its name.
 fn all(alloc: Global) -> Mem<List<StoredQuery>> {
     let mut all = Vec::new(alloc);
     all.push(stored(alloc, BUILT_IN, "", &["id"], &[], "")?)?;
@@ -54,14 +54,15 @@ fn all(alloc: Global) -> Mem<List<StoredQuery>> {
         TEXT,
     )?)?;
     all.push(stored(alloc, "a&b", "", &[], &[1], TEXT)?)?;
+    all.push(stored(alloc, "c", "", &[], &[], "")?)?;
     Ok(List::of(all))
 }
 
 const LISTED: &str =
-    "<?xml version=\"1.0\" encoding=\"UTF-8\"?><wfs:ListStoredQueriesResponse xmlns:wfs=\"http://www.opengis.net/wfs/2.0\" xmlns:m=\"http://example.org/marks\"><wfs:StoredQuery id=\"urn:ogc:def:query:OGC-WFS::GetFeatureById\"><wfs:ReturnFeatureType>m:Mark</wfs:ReturnFeatureType><wfs:ReturnFeatureType>m:Flag</wfs:ReturnFeatureType></wfs:StoredQuery><wfs:StoredQuery id=\"urn:x:by\"><wfs:Title>By &lt;l&gt;</wfs:Title><wfs:ReturnFeatureType>m:Flag</wfs:ReturnFeatureType><wfs:ReturnFeatureType>m:Mark</wfs:ReturnFeatureType></wfs:StoredQuery><wfs:StoredQuery id=\"a&amp;b\"><wfs:ReturnFeatureType>m:Flag</wfs:ReturnFeatureType></wfs:StoredQuery></wfs:ListStoredQueriesResponse>";
+    "<?xml version=\"1.0\" encoding=\"UTF-8\"?><wfs:ListStoredQueriesResponse xmlns:wfs=\"http://www.opengis.net/wfs/2.0\" xmlns:m=\"http://example.org/marks\"><wfs:StoredQuery id=\"urn:ogc:def:query:OGC-WFS::GetFeatureById\"><wfs:ReturnFeatureType>m:Mark</wfs:ReturnFeatureType><wfs:ReturnFeatureType>m:Flag</wfs:ReturnFeatureType></wfs:StoredQuery><wfs:StoredQuery id=\"urn:x:by\"><wfs:Title>By &lt;l&gt;</wfs:Title><wfs:ReturnFeatureType>m:Flag</wfs:ReturnFeatureType><wfs:ReturnFeatureType>m:Mark</wfs:ReturnFeatureType></wfs:StoredQuery><wfs:StoredQuery id=\"a&amp;b\"><wfs:ReturnFeatureType>m:Flag</wfs:ReturnFeatureType></wfs:StoredQuery><wfs:StoredQuery id=\"c\"/></wfs:ListStoredQueriesResponse>";
 
 const WHOLE: &str =
-    "<?xml version=\"1.0\" encoding=\"UTF-8\"?><wfs:DescribeStoredQueriesResponse xmlns:wfs=\"http://www.opengis.net/wfs/2.0\" xmlns:m=\"http://example.org/marks\" xmlns:xs=\"http://www.w3.org/2001/XMLSchema\"><wfs:StoredQueryDescription id=\"urn:ogc:def:query:OGC-WFS::GetFeatureById\"><wfs:Parameter name=\"id\" type=\"xs:string\"/><wfs:QueryExpressionText returnFeatureTypes=\"m:Mark m:Flag\" language=\"urn:ogc:def:queryLanguage:OGC-WFS::WFS_QueryExpression\" isPrivate=\"true\"/></wfs:StoredQueryDescription><wfs:StoredQueryDescription id=\"urn:x:by\"><wfs:Title>By &lt;l&gt;</wfs:Title><wfs:Parameter name=\"l\" type=\"xs:string\"/><wfs:Parameter name=\"a&quot;b\" type=\"xs:string\"/><wfs:QueryExpressionText returnFeatureTypes=\"m:Flag m:Mark\" language=\"urn:ogc:def:queryLanguage:OGC-WFS::WFS_QueryExpression\" isPrivate=\"false\"><wfs:Query xmlns:wfs=\"http://www.opengis.net/wfs/2.0\" xmlns:fes=\"http://www.opengis.net/fes/2.0\" xmlns:gml=\"http://www.opengis.net/gml/3.2\" xmlns:m=\"http://example.org/marks\" typeNames=\"m:Flag\"/></wfs:QueryExpressionText></wfs:StoredQueryDescription><wfs:StoredQueryDescription id=\"a&amp;b\"><wfs:QueryExpressionText returnFeatureTypes=\"m:Flag\" language=\"urn:ogc:def:queryLanguage:OGC-WFS::WFS_QueryExpression\" isPrivate=\"false\"><wfs:Query xmlns:wfs=\"http://www.opengis.net/wfs/2.0\" xmlns:fes=\"http://www.opengis.net/fes/2.0\" xmlns:gml=\"http://www.opengis.net/gml/3.2\" xmlns:m=\"http://example.org/marks\" typeNames=\"m:Flag\"/></wfs:QueryExpressionText></wfs:StoredQueryDescription></wfs:DescribeStoredQueriesResponse>";
+    "<?xml version=\"1.0\" encoding=\"UTF-8\"?><wfs:DescribeStoredQueriesResponse xmlns:wfs=\"http://www.opengis.net/wfs/2.0\" xmlns:m=\"http://example.org/marks\" xmlns:xs=\"http://www.w3.org/2001/XMLSchema\"><wfs:StoredQueryDescription id=\"urn:ogc:def:query:OGC-WFS::GetFeatureById\"><wfs:Parameter name=\"id\" type=\"xs:string\"/><wfs:QueryExpressionText returnFeatureTypes=\"m:Mark m:Flag\" language=\"urn:ogc:def:queryLanguage:OGC-WFS::WFS_QueryExpression\" isPrivate=\"true\"/></wfs:StoredQueryDescription><wfs:StoredQueryDescription id=\"urn:x:by\"><wfs:Title>By &lt;l&gt;</wfs:Title><wfs:Parameter name=\"l\" type=\"xs:string\"/><wfs:Parameter name=\"a&quot;b\" type=\"xs:string\"/><wfs:QueryExpressionText returnFeatureTypes=\"m:Flag m:Mark\" language=\"urn:ogc:def:queryLanguage:OGC-WFS::WFS_QueryExpression\" isPrivate=\"false\"><wfs:Query xmlns:wfs=\"http://www.opengis.net/wfs/2.0\" xmlns:fes=\"http://www.opengis.net/fes/2.0\" xmlns:gml=\"http://www.opengis.net/gml/3.2\" xmlns:m=\"http://example.org/marks\" typeNames=\"m:Flag\"/></wfs:QueryExpressionText></wfs:StoredQueryDescription><wfs:StoredQueryDescription id=\"a&amp;b\"><wfs:QueryExpressionText returnFeatureTypes=\"m:Flag\" language=\"urn:ogc:def:queryLanguage:OGC-WFS::WFS_QueryExpression\" isPrivate=\"false\"><wfs:Query xmlns:wfs=\"http://www.opengis.net/wfs/2.0\" xmlns:fes=\"http://www.opengis.net/fes/2.0\" xmlns:gml=\"http://www.opengis.net/gml/3.2\" xmlns:m=\"http://example.org/marks\" typeNames=\"m:Flag\"/></wfs:QueryExpressionText></wfs:StoredQueryDescription><wfs:StoredQueryDescription id=\"c\"><wfs:QueryExpressionText returnFeatureTypes=\"\" language=\"urn:ogc:def:queryLanguage:OGC-WFS::WFS_QueryExpression\" isPrivate=\"false\"/></wfs:StoredQueryDescription></wfs:DescribeStoredQueriesResponse>";
 
 const CREATED: &str =
     "<?xml version=\"1.0\" encoding=\"UTF-8\"?><wfs:CreateStoredQueryResponse xmlns:wfs=\"http://www.opengis.net/wfs/2.0\" status=\"OK\"/>";
@@ -70,11 +71,11 @@ const DROPPED: &str =
     "<?xml version=\"1.0\" encoding=\"UTF-8\"?><wfs:DropStoredQueryResponse xmlns:wfs=\"http://www.opengis.net/wfs/2.0\" status=\"OK\"/>";
 
 fn listed_is_given(alloc: Global) -> Mem<bool> {
-    is_given(alloc, &Reply::StoredList(all(alloc)?), XML, 658, LISTED)
+    is_given(alloc, &Reply::StoredList(all(alloc)?), XML, 683, LISTED)
 }
 
 fn whole_is_given(alloc: Global) -> Mem<bool> {
-    is_given(alloc, &Reply::StoredTexts(all(alloc)?), XML, 1_512, WHOLE)
+    is_given(alloc, &Reply::StoredTexts(all(alloc)?), XML, 1_708, WHOLE)
 }
 
 #[test]

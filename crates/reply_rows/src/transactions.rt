@@ -64,6 +64,28 @@ fn handles_and_each_kind_of_action_stand_in_the_answer(rt: HostRuntime) {
     assert_eq!(rt; changed_is_given(rt.alloc()), Ok(true));
 }
 
+const BOTH: &str =
+    "<?xml version=\"1.0\" encoding=\"UTF-8\"?><wfs:TransactionResponse xmlns:wfs=\"http://www.opengis.net/wfs/2.0\" xmlns:fes=\"http://www.opengis.net/fes/2.0\" version=\"2.0.2\"><wfs:TransactionSummary><wfs:totalInserted>1</wfs:totalInserted><wfs:totalUpdated>1</wfs:totalUpdated><wfs:totalReplaced>0</wfs:totalReplaced><wfs:totalDeleted>0</wfs:totalDeleted></wfs:TransactionSummary><wfs:InsertResults><wfs:Feature><fes:ResourceId rid=\"Mark.3\"/></wfs:Feature></wfs:InsertResults><wfs:UpdateResults><wfs:Feature><fes:ResourceId rid=\"Flag.7\"/></wfs:Feature></wfs:UpdateResults></wfs:TransactionResponse>";
+
+fn both_are_given(alloc: Global) -> Mem<bool> {
+    let mut inserted = Vec::new(alloc);
+    inserted.push(made(alloc, 0, 3, None)?)?;
+    let mut updated = Vec::new(alloc);
+    updated.push(made(alloc, 1, 7, None)?)?;
+    let reply = Reply::Transacted {
+        deleted: 0,
+        inserted: List::of(inserted),
+        updated: List::of(updated),
+        replaced: List::of(Vec::new(alloc)),
+    };
+    is_given(alloc, &reply, XML, 588, BOTH)
+}
+
+#[test]
+fn the_inserted_stand_before_the_updated(rt: HostRuntime) {
+    assert_eq!(rt; both_are_given(rt.alloc()), Ok(true));
+}
+
 // ---- locks
 
 fn ids(alloc: Global, kind: u32, numbers: &[u64]) -> Mem<List<Rid>> {
