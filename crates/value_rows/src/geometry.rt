@@ -395,10 +395,7 @@ fn has_not(alloc: Global, other: &Geometry, gap: &[Place]) -> Mem<bool> {
 
 // Whether the lines through these places are equal, if they are lines.
 fn are_equal(alloc: Global, one: &[Place], other: &[Place]) -> Mem<Option<bool>> {
-    match (
-        Line::new(path(alloc, one)?),
-        Line::new(path(alloc, other)?),
-    ) {
+    match (Line::new(path(alloc, one)?), Line::new(path(alloc, other)?)) {
         (Ok(one), Ok(other)) => Ok(Some(one == other)),
         _ => Ok(None),
     }

@@ -214,8 +214,10 @@ fn is_name_told(alloc: Global, start: &str, character: &str, line: &str) -> Mem<
 fn is_character_told(alloc: Global, c: char, first: &str, later: &str) -> Mem<bool> {
     let mut character = String::new(alloc);
     character.push(c)?;
-    Ok(is_name_told(alloc, "\"", character.as_str(), first)?
-        && is_name_told(alloc, "\"A", character.as_str(), later)?)
+    Ok(
+        is_name_told(alloc, "\"", character.as_str(), first)?
+            && is_name_told(alloc, "\"A", character.as_str(), later)?,
+    )
 }
 
 // The first character of `CHARACTERS` that is told by another line.

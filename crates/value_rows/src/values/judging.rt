@@ -192,11 +192,7 @@ static ORDERS: [(Sketch, Sketch, Option<Ordering>); 13] = [
         Sketch::Words("aB"),
         Some(Ordering::Greater),
     ),
-    (
-        Sketch::Words("Z"),
-        Sketch::Words("a"),
-        Some(Ordering::Less),
-    ),
+    (Sketch::Words("Z"), Sketch::Words("a"), Some(Ordering::Less)),
     (
         Sketch::Words("\u{fffd}"),
         Sketch::Words("\u{1f5fa}"),
