@@ -67,7 +67,7 @@ fn marks(alloc: Global) -> Mem<FeatureType> {
 }
 
 // Two types of marks.
-fn nothing(alloc: Global) -> Mem<Nothing> {
+fn no_marks(alloc: Global) -> Mem<Nothing> {
     let mut types = Vec::new(alloc);
     types.push(marks(alloc)?)?;
     types.push(marks(alloc)?)?;
@@ -184,8 +184,8 @@ fn by_keys(alloc: Global, wanted: &[(u32, bool)]) -> Mem<Query> {
 
 // The first row of `ORDERS` that is not so.
 fn misplaced(alloc: Global) -> Mem<Option<usize>> {
-    let nothing = nothing(alloc)?;
-    let view = five(alloc, &nothing)?;
+    let none = no_marks(alloc)?;
+    let view = five(alloc, &none)?;
     for (i, (keys, wanted)) in ORDERS.iter().enumerate() {
         let query = by_keys(alloc, keys)?;
         if !selects(alloc, &view, &query, wanted)? {
@@ -202,8 +202,8 @@ fn each_key_goes_its_own_way(rt: HostRuntime) {
 
 // Whether a query of a type that lists marks 4 of the first type and 1 of the second selects just these.
 fn listed_selects(alloc: Global, kind: u32, wanted: &[u64]) -> Mem<bool> {
-    let nothing = nothing(alloc)?;
-    let view = five(alloc, &nothing)?;
+    let none = no_marks(alloc)?;
+    let view = five(alloc, &none)?;
     let mut ids = Vec::new(alloc);
     ids.push(IdRef::Known(Rid { kind: 0, number: 4 }))?;
     ids.push(IdRef::Known(Rid { kind: 1, number: 1 }))?;
