@@ -38,7 +38,7 @@ const THREE: Ask = Ask::Transact(
 
 const LOCK: Option<(u64, u64)> = Some((1, 1));
 
-static RUNS: [(&str, &[Step]); 14] = [
+static RUNS: [(&str, &[Step]); 15] = [
     (
         "a lock on one, on all, and on those that are free",
         &[
@@ -338,6 +338,30 @@ static RUNS: [(&str, &[Step]); 14] = [
             ),
         ],
     ),
+    // What is played ends no lock.
+    (
+        "a lock and the changes that are played",
+        &[
+            (1000, TWO, Want::Told(&[1, 2], &[], &[], 0)),
+            (
+                1000,
+                Ask::Lock(Some(1), Take::AllOrNone, 300),
+                Want::Locked(LOCK, &[1], &[]),
+            ),
+            (1000, Ask::Play(&[Deed::Insert(30)]), Want::Nothing),
+            (1000, Ask::PlayCreate, Want::Nothing),
+            (
+                1000,
+                Ask::Use("urn:x:by", &[("l", "30")]),
+                Want::Marks(&[3]),
+            ),
+            (
+                1000,
+                Ask::Transact(None, Release::Whole, &[Deed::Delete(Some(1))]),
+                Want::Row(18, "lockId"),
+            ),
+        ],
+    ),
 ];
 
 fn are_ids(ids: &[Rid], numbers: &[u64]) -> bool {
@@ -440,12 +464,11 @@ fn changed(alloc: Global, machine: &mut Plain, schema: &Schema, moment: u64, ask
 }
 
 #[tactic(auto, using(wfs_machine::proofs::Changes::made_keeps))]
-fn played(alloc: Global, machine: &mut Plain, schema: &Schema, deeds: &'static [Deed]) -> Mem<bool>
+fn played(alloc: Global, machine: &mut Plain, schema: &Schema, ask: Ask) -> Mem<bool>
     requires same { machine.old.schema ≡ schema.now }
     requires marks { AreMarks schema.now }
     ensures { machine.new.schema ≡ machine.old.schema }
 {
-    let ask = Ask::Transact(None, Release::Whole, deeds);
     let entry = Entry {
         seat: 0,
         moment: 0,
@@ -479,7 +502,11 @@ fn answered(
             machine.reopen(opening);
             Ok(true)
         }
-        Ask::Play(deeds) => played(alloc, machine, schema, deeds),
+        Ask::Play(deeds) => {
+            let ask = Ask::Transact(None, Release::Whole, deeds);
+            played(alloc, machine, schema, ask)
+        }
+        Ask::PlayCreate => played(alloc, machine, schema, Ask::Create),
         Ask::Count | Ask::Use(..) => {
             let reply = machine.read(moment, &reading(alloc, ask)?)?;
             Ok(is_answer(&reply, want))

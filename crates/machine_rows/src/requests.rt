@@ -221,6 +221,8 @@ pub enum Ask {
     Reopen(u64),
     /// No request: the change that a transaction would make is played.
     Play(&'static [Deed]),
+    /// No request: the change that `Create` would make is played.
+    PlayCreate,
 }
 
 fn lock_id(id: Option<(u64, u64)>) -> Option<LockId> {

@@ -7,10 +7,11 @@ ghost use Rattle.transaction_core.specs.Marks.{AreMarks};
 ghost use Rattle.transaction_core.specs.Plan.{IsTransaction};
 
 use crate::marks::{allowed, filter};
+use crate::samples::HANDLE;
 use feature_values::{Feature, Schema, Value};
 use lock_table::{LockId, Release};
 use std::alloc::Global;
-use wfs_ends::{List, Mem};
+use wfs_ends::{List, Mem, Text};
 use wfs_model::{Action, Request};
 
 /// What is done.
@@ -42,7 +43,7 @@ pub fn insert(alloc: Global, schema: &Schema, size: i64) -> Mem<Action>
     let mut features = Vec::new(alloc);
     features.push(new_mark(alloc, schema, size)?)?;
     Ok(Action::Insert {
-        handle: None,
+        handle: Some(Text::of(alloc, HANDLE)?),
         features: List::of(features),
     })
 }
@@ -55,7 +56,7 @@ fn update(alloc: Global, schema: &Schema, number: Option<u64>, size: i64) -> Mem
     let mut sets = Vec::new(alloc);
     sets.push((0, Value::Whole(size)))?;
     Ok(Action::Update {
-        handle: None,
+        handle: Some(Text::of(alloc, HANDLE)?),
         kind: 0,
         sets: List::of(sets),
         filter: Some(filter(alloc, schema, number)?),
@@ -69,7 +70,7 @@ fn replace(alloc: Global, schema: &Schema, number: Option<u64>, size: i64) -> Me
     let feature = new_mark(alloc, schema, size)?;
     let filter = filter(alloc, schema, number)?;
     Ok(Action::Replace {
-        handle: None,
+        handle: Some(Text::of(alloc, HANDLE)?),
         feature,
         filter,
     })

@@ -1,16 +1,21 @@
-//! Reads over two marks, a stored query with a parameter, and the list of stored queries. What is expected was worked out by hand.
+//! Reads over three marks, stored queries with parameters, and the list of stored queries. What is expected was worked out by hand.
 use crate::samples::{are_given, texts};
 use feature_values::Schema;
-use fes_filter::{By, Expr, Filter, Query};
+use fes_filter::{By, Expr, Filter, IdRef, Query};
 use std::alloc::Global;
 use stored_queries::{Stored, answer, expand};
 use views::{SampleView, sample, schema};
-use wfs_ends::{List, Mem, OutOfMemory, Text};
+use wfs_ends::{Boxed, List, Mem, OutOfMemory, Text};
 use wfs_model::{Asked, Present, Reply, Request, StoredFault, StoredQuery};
 
 mod views;
 
 const BY_LABEL: &str = "urn:x:by";
+
+const BY_PLACES: &str = "urn:x:at";
+
+/// The third mark, and then the first.
+const AT_PLACES: &[(&str, &str)] = &[("not", "7"), ("low", "7"), ("high", "9"), ("id", "Mark.1")];
 
 const BY_ID: &str = "urn:ogc:def:query:OGC-WFS::GetFeatureById";
 
@@ -22,9 +27,11 @@ const LINK: &str = "http://localhost:8080/wfs?service=WFS&request=GetFeature&typ
 enum Ask {
     Marks(bool, u32, Option<u32>),
     Use(bool, &'static str, &'static [(&'static str, &'static str)]),
-    /// Uses of the query by label, with one parameter each.
-    Uses(&'static [(&'static str, &'static str)]),
+    /// Uses of a query, with one parameter each.
+    Uses(&'static str, &'static [(&'static str, &'static str)]),
     Sizes(bool, u32, Option<u32>),
+    /// Values in a use, by the name of their property and not by the number that stands beside it.
+    ValuesOf(&'static str, &'static [(&'static str, &'static str)]),
     Describe(&'static [&'static str]),
 }
 
@@ -37,31 +44,41 @@ enum Want {
     Described(&'static [&'static str]),
 }
 
-static ROWS: [(&str, Ask, Want); 21] = [
+static ROWS: [(&str, Ask, Want); 36] = [
     (
         "counted",
         Ask::Marks(true, 1, Some(1)),
-        Want::Features(2, &[], "", ""),
+        Want::Features(3, &[], "", ""),
     ),
     (
         "a page past the end",
-        Ask::Marks(false, 2, Some(5)),
-        Want::Features(2, &[], "", "&startIndex=0&count=2"),
+        Ask::Marks(false, 3, Some(5)),
+        Want::Features(3, &[], "", "&startIndex=0&count=3"),
     ),
     (
         "the first page",
         Ask::Marks(false, 0, Some(1)),
-        Want::Features(2, &[1], "&startIndex=1&count=1", ""),
+        Want::Features(3, &[1], "&startIndex=1&count=1", ""),
+    ),
+    (
+        "the second page",
+        Ask::Marks(false, 1, Some(1)),
+        Want::Features(3, &[2], "&startIndex=2&count=1", "&startIndex=0&count=1"),
+    ),
+    (
+        "the last page",
+        Ask::Marks(false, 2, Some(1)),
+        Want::Features(3, &[3], "", "&startIndex=1&count=1"),
     ),
     (
         "without a count",
         Ask::Marks(false, 1, None),
-        Want::Features(2, &[2], "", "&startIndex=0&count=1"),
+        Want::Features(3, &[2, 3], "", "&startIndex=0&count=1"),
     ),
     (
         "of no members",
         Ask::Marks(false, 1, Some(0)),
-        Want::Features(2, &[], "", ""),
+        Want::Features(3, &[], "", ""),
     ),
     (
         "by label, in another case",
@@ -85,13 +102,46 @@ static ROWS: [(&str, Ask, Want); 21] = [
     ),
     (
         "several uses, each feature once",
-        Ask::Uses(&[("l", "B"), ("l", "A"), ("l", "B")]),
+        Ask::Uses(BY_LABEL, &[("l", "B"), ("l", "A"), ("l", "B")]),
         Want::Features(2, &[2, 1], "", ""),
     ),
     (
         "the first fault of several uses",
-        Ask::Uses(&[("l", "B"), ("x", "A"), ("l", "A")]),
+        Ask::Uses(BY_LABEL, &[("l", "B"), ("x", "A"), ("l", "A")]),
         Want::Row(10, "l"),
+    ),
+    (
+        "several queries of one use, by all places of parameters",
+        Ask::Use(false, BY_PLACES, AT_PLACES),
+        Want::Features(2, &[3, 1], "", ""),
+    ),
+    (
+        "an id that names nothing",
+        Ask::Use(
+            false,
+            BY_PLACES,
+            &[("not", "7"), ("low", "7"), ("high", "9"), ("id", "x")],
+        ),
+        Want::Features(1, &[3], "", ""),
+    ),
+    (
+        "within And, Or and Not no number",
+        Ask::Use(false, BY_PLACES, &[("NOT", "x")]),
+        Want::Row(11, "not"),
+    ),
+    (
+        "as lower bound no number",
+        Ask::Use(false, BY_PLACES, &[("not", "7"), ("low", "x")]),
+        Want::Row(11, "low"),
+    ),
+    (
+        "as upper bound no number",
+        Ask::Use(
+            false,
+            BY_PLACES,
+            &[("not", "7"), ("low", "7"), ("high", "x")],
+        ),
+        Want::Row(11, "high"),
     ),
     (
         "no such query",
@@ -114,6 +164,21 @@ static ROWS: [(&str, Ask, Want); 21] = [
         Want::Bare(2),
     ),
     (
+        "two features by their ids",
+        Ask::Uses(BY_ID, &[("id", "Mark.2"), ("id", "Mark.1")]),
+        Want::Features(2, &[2, 1], "", ""),
+    ),
+    (
+        "a feature without its id",
+        Ask::Use(false, BY_ID, &[]),
+        Want::Row(10, "id"),
+    ),
+    (
+        "by its id, with another parameter",
+        Ask::Use(false, BY_ID, &[("id", "Mark.2"), ("x", "1")]),
+        Want::Row(11, "x"),
+    ),
+    (
         "by its id, counted",
         Ask::Use(true, BY_ID, &[("id", "Mark.2")]),
         Want::Features(1, &[], "", ""),
@@ -121,17 +186,42 @@ static ROWS: [(&str, Ask, Want); 21] = [
     (
         "values",
         Ask::Sizes(false, 0, Some(1)),
-        Want::Values(1, &[2], "", ""),
+        Want::Values(2, &[2], "&startIndex=1&count=1", ""),
+    ),
+    (
+        "the last page of values",
+        Ask::Sizes(false, 1, Some(1)),
+        Want::Values(2, &[3], "", "&startIndex=0&count=1"),
     ),
     (
         "values, counted",
         Ask::Sizes(true, 0, None),
-        Want::Values(1, &[], "", ""),
+        Want::Values(2, &[], "", ""),
+    ),
+    (
+        "values in a use",
+        Ask::ValuesOf(BY_LABEL, &[("l", "B"), ("", "size")]),
+        Want::Values(1, &[2], "", ""),
+    ),
+    (
+        "values of no property in a use",
+        Ask::ValuesOf(BY_LABEL, &[("l", "B"), ("", "nope")]),
+        Want::Row(11, "nope"),
+    ),
+    (
+        "values by an id that is not there",
+        Ask::ValuesOf(BY_ID, &[("id", "Mark.9"), ("", "size")]),
+        Want::Values(0, &[], "", ""),
+    ),
+    (
+        "values by no id",
+        Ask::ValuesOf(BY_ID, &[("id", "Mark"), ("", "m:size")]),
+        Want::Row(11, "m:size"),
     ),
     (
         "all described",
         Ask::Describe(&[]),
-        Want::Described(&[BY_ID, BY_LABEL]),
+        Want::Described(&[BY_ID, BY_LABEL, BY_PLACES]),
     ),
     (
         "described in the order of all",
@@ -190,11 +280,11 @@ fn only(alloc: Global, asked: Asked) -> Mem<List<Asked>> {
     Ok(List::of(all))
 }
 
-fn uses_of(alloc: Global, pairs: &[(&str, &str)]) -> Mem<List<Asked>> {
+fn uses_of(alloc: Global, id: &str, pairs: &[(&str, &str)]) -> Mem<List<Asked>> {
     let mut all = Vec::new(alloc);
     for one in pairs {
         let (name, value) = *one;
-        all.push(use_of(alloc, BY_LABEL, &[(name, value)])?)?;
+        all.push(use_of(alloc, id, &[(name, value)])?)?;
     }
     Ok(List::of(all))
 }
@@ -215,6 +305,11 @@ fn sizes_of(alloc: Global, hits: bool, start: u32, count: Option<u32>) -> Mem<Re
     Ok(Request::GetValues(present, Asked::Plain(marks(alloc, None)), 1))
 }
 
+fn values_of(alloc: Global, id: &str, pairs: &[(&str, &str)]) -> Mem<Request> {
+    let present = present(alloc, false, 0, None)?;
+    Ok(Request::GetValues(present, use_of(alloc, id, pairs)?, 0))
+}
+
 fn request_of(alloc: Global, ask: &Ask) -> Mem<Request> {
     match ask {
         Ask::Marks(hits, start, count) => {
@@ -225,8 +320,9 @@ fn request_of(alloc: Global, ask: &Ask) -> Mem<Request> {
             let asked = only(alloc, use_of(alloc, *id, *pairs)?)?;
             features_of(alloc, asked, *hits, 0, None)
         }
-        Ask::Uses(pairs) => features_of(alloc, uses_of(alloc, *pairs)?, false, 0, None),
+        Ask::Uses(id, pairs) => features_of(alloc, uses_of(alloc, *id, *pairs)?, false, 0, None),
         Ask::Sizes(hits, start, count) => sizes_of(alloc, *hits, *start, *count),
+        Ask::ValuesOf(id, pairs) => values_of(alloc, *id, *pairs),
         Ask::Describe(ids) => Ok(Request::DescribeStored(texts(alloc, *ids)?)),
     }
 }
@@ -294,21 +390,25 @@ fn is_wanted(reply: &Reply, want: &Want) -> bool {
     }
 }
 
-/// The query by label, with the parameter `l`.
-fn by_label(alloc: Global) -> Mem<StoredQuery> {
-    let mut queries = Vec::new(alloc);
-    queries.push(marks(
-        alloc,
-        Some(Filter::Compare {
-            by: By::Equal,
-            left: Expr::Property(0),
-            right: Expr::Parameter(0),
-            fold: false,
-        }),
-    ))?;
-    let id = Text::of(alloc, BY_LABEL)?;
+/// A property equals the first parameter.
+fn equal(property: u32) -> Filter {
+    Filter::Compare {
+        by: By::Equal,
+        left: Expr::Property(property),
+        right: Expr::Parameter(0),
+        fold: false,
+    }
+}
+
+fn definition(
+    alloc: Global,
+    id: &str,
+    parameters: &[&str],
+    queries: Vec<Query>,
+) -> Mem<StoredQuery> {
+    let id = Text::of(alloc, id)?;
     let title = Text::of(alloc, "")?;
-    let parameters = texts(alloc, &["l"])?;
+    let parameters = texts(alloc, parameters)?;
     let text = Text::of(alloc, "")?;
     Ok(StoredQuery {
         id,
@@ -317,6 +417,48 @@ fn by_label(alloc: Global) -> Mem<StoredQuery> {
         queries: List::of(queries),
         text,
     })
+}
+
+/// The query by label, with the parameter `l`.
+fn by_label(alloc: Global) -> Mem<StoredQuery> {
+    let mut queries = Vec::new(alloc);
+    queries.push(marks(alloc, Some(equal(0))))?;
+    definition(alloc, BY_LABEL, &["l"], queries)
+}
+
+/// Either there is no size, or it is not the first parameter.
+fn other_or_none(alloc: Global) -> Mem<Filter> {
+    let mut parts = Vec::new(alloc);
+    parts.push(Filter::IsNull(1))?;
+    parts.push(Filter::Not(Boxed::new(alloc, equal(1))?))?;
+    Ok(Filter::Either(List::of(parts)))
+}
+
+/// The same, and a size from the second parameter to the third.
+fn other_between(alloc: Global) -> Mem<Filter> {
+    let mut parts = Vec::new(alloc);
+    parts.push(other_or_none(alloc)?)?;
+    parts.push(Filter::Between {
+        property: 1,
+        low: Expr::Parameter(1),
+        high: Expr::Parameter(2),
+    })?;
+    Ok(Filter::Both(List::of(parts)))
+}
+
+/// The fourth parameter is the identifier.
+fn of_id(alloc: Global) -> Mem<Filter> {
+    let mut ids = Vec::new(alloc);
+    ids.push(IdRef::Parameter(3))?;
+    Ok(Filter::Ids(List::of(ids)))
+}
+
+/// Two queries, in which parameters stand wherever they may.
+fn by_places(alloc: Global) -> Mem<StoredQuery> {
+    let mut queries = Vec::new(alloc);
+    queries.push(marks(alloc, Some(other_between(alloc)?)))?;
+    queries.push(marks(alloc, Some(of_id(alloc)?)))?;
+    definition(alloc, BY_PLACES, &["not", "low", "high", "id"], queries)
 }
 
 fn definitions(alloc: Global, times: u32) -> Mem<List<StoredQuery>> {
@@ -337,8 +479,11 @@ fn create(stored: &mut Stored, definitions: List<StoredQuery>) -> Mem<Option<Tex
 
 fn stored(alloc: Global) -> Mem<Stored> {
     let mut stored = Stored::new(alloc);
-    stored.reserve(1)?;
-    create(&mut stored, definitions(alloc, 1)?)?;
+    stored.reserve(2)?;
+    let mut all = Vec::new(alloc);
+    all.push(by_label(alloc)?)?;
+    all.push(by_places(alloc)?)?;
+    create(&mut stored, List::of(all))?;
     Ok(stored)
 }
 
@@ -436,23 +581,23 @@ fn expanded(alloc: Global, stored: &Stored, asked: &Asked, schema: &Schema) -> O
     }
 }
 
-/// For how many queries a use of the query by label stands.
+/// For how many queries a use of the query by places stands.
 fn use_expanded(alloc: Global, stored: &Stored, schema: &Schema) -> Mem<Option<usize>> {
-    let asked = use_of(alloc, BY_LABEL, &[("l", "B")])?;
+    let asked = use_of(alloc, BY_PLACES, AT_PLACES)?;
     Ok(expanded(alloc, stored, &asked, schema))
 }
 
-fn of_label(alloc: Global, schema: &Schema) -> Mem<Option<usize>> {
+fn of_places(alloc: Global, schema: &Schema) -> Mem<Option<usize>> {
     let stored = stored(alloc)?;
     use_expanded(alloc, &stored, schema)
 }
 
 fn number_expanded(alloc: Global) -> Mem<Option<usize>> {
     let schema = schema(alloc)?;
-    of_label(alloc, &schema)
+    of_places(alloc, &schema)
 }
 
 #[test]
 fn expands_a_use(rt: HostRuntime) {
-    assert_eq!(rt; number_expanded(rt.alloc()), Ok(Some(1)));
+    assert_eq!(rt; number_expanded(rt.alloc()), Ok(Some(2)));
 }

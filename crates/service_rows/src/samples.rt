@@ -7,6 +7,9 @@ use std::alloc::Global;
 use wfs_ends::{List, Mem, Text};
 use wfs_model::Made;
 
+/// The handle of each action.
+pub const HANDLE: &str = "h";
+
 /// A list of these texts.
 pub fn texts(alloc: Global, all: &[&str]) -> Mem<List<Text>> {
     let mut found = Vec::new(alloc);
@@ -53,13 +56,20 @@ pub fn are(ids: &[Rid], numbers: &[u64]) -> bool {
     true
 }
 
-/// Whether what was made has just these numbers, in this order.
+fn is_handle(handle: &Option<Text>) -> bool {
+    match handle {
+        None => false,
+        Some(handle) => handle.as_str() == HANDLE,
+    }
+}
+
+/// Whether what was made has just these numbers, in this order, and the handle of its action.
 pub fn are_made(made: &[Made], numbers: &[u64]) -> bool {
     if made.len() != numbers.len() {
         return false;
     }
     for (one, number) in made.iter().zip(numbers) {
-        if one.id.number != *number {
+        if one.id.number != *number || !is_handle(&one.handle) {
             return false;
         }
     }

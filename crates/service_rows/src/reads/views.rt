@@ -1,4 +1,4 @@
-//! A view of two marks.
+//! A view of three marks.
 
 ghost use Rattle.std.specs.Prelude.{◌≡◌, IsTrue, All, Ok};
 ghost use Rattle.std.specs.List.{find};
@@ -141,10 +141,11 @@ fn feature(alloc: Global, number: u64, label: &str, size: Value) -> Mem<Feature>
     Feature::of(alloc, Rid { kind: 0, number }, values)
 }
 
-fn two_marks(alloc: Global) -> Mem<Vec<Feature>> {
+fn three_marks(alloc: Global) -> Mem<Vec<Feature>> {
     let mut all = Vec::new(alloc);
     all.push(feature(alloc, 1, "A", Value::Null)?)?;
     all.push(feature(alloc, 2, "B", Value::Whole(7))?)?;
+    all.push(feature(alloc, 3, "C", Value::Whole(9))?)?;
     Ok(all)
 }
 
@@ -157,9 +158,9 @@ impl SampleView {
     }
 }
 
-/// Two marks, of which the first has no size; where they are not in order or do not fit, as if there were no memory.
+/// Three marks, of which the first has no size; where they are not in order or do not fit, as if there were no memory.
 pub fn sample(alloc: Global) -> Mem<SampleView> {
-    let features = two_marks(alloc)?;
+    let features = three_marks(alloc)?;
     let schema = schema(alloc)?;
     if !are_in_order(&features) || !do_all_fit(&schema, &features) {
         return Err(OutOfMemory);
