@@ -32,6 +32,17 @@ fn a_counting_sink_counts_the_bytes_of_all_puts(rt: HostRuntime) -> Result<(), F
     Ok(())
 }
 
+#[test]
+fn a_source_whose_take_failed_gives_at_the_next_what_was_due(rt: HostRuntime) -> Result<(), Fail> {
+    let alloc = rt.alloc();
+    let mut source = MemSource::new(vec![in alloc; b'a', b'b', b'c']?, vec![in alloc; 0]?);
+    let mut into = [0u8; 2];
+    assert!(rt; source.take(&mut into).is_err());
+    assert_eq!(rt; source.take(&mut into), Ok(2));
+    assert_eq!(rt; into.as_slice(), b"ab".as_slice());
+    Ok(())
+}
+
 // Whether two bytes go out of a source, which then fails, and two into a sink.
 fn moves_both_ways(source: &mut MemSource, sink: &mut MemSink) -> bool {
     let mut joined = Joined { source, sink };

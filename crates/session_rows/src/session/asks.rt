@@ -4,7 +4,7 @@
 use super::first_misread;
 
 /// A stream, and what is read of it.
-static ASKS: [(&str, &str); 23] = [
+static ASKS: [(&str, &str); 24] = [
     (
         "POST /a HTTP/1.1\r\nExpect: 100-CONTINUE\r\nContent-Length: 5\r\n\r\nhello",
         "POST /a[hello];End+",
@@ -96,6 +96,10 @@ static ASKS: [(&str, &str); 23] = [
     (
         "GET / HTTP/1.1\r\nConnection: a close\r\n\r\n",
         "GET /[];End",
+    ),
+    (
+        "GET / HTTP/1.0\r\nConnection: keep-alive\r\n\r\n",
+        "GET /![];End",
     ),
 ];
 

@@ -3,7 +3,7 @@
 use super::first_misread;
 
 /// A stream, and what is read of it.
-static CHUNKS: [(&str, &str); 19] = [
+static CHUNKS: [(&str, &str); 22] = [
     (
         "POST /a HTTP/1.1\r\nTransfer-Encoding: CHUNKED\r\n\r\n5\r\nhello\r\n0\r\n\r\n",
         "POST /a[hello];End",
@@ -79,6 +79,18 @@ static CHUNKS: [(&str, &str); 19] = [
     (
         "POST /a HTTP/1.0\r\nTransfer-Encoding: chunked\r\n\r\n1\r\nx\r\n0\r\n\r\n",
         "POST /a![x];End",
+    ),
+    (
+        "GET /a HTTP/1.1\r\nTransfer-Encoding: chunked\r\n\r\n1\r\nx\r\n0\r\n\r\n",
+        "GET /a[x];End",
+    ),
+    (
+        "POST /a HTTP/1.1\r\nTransfer-Encoding: chunked\r\n\r\n5\r\nhello\n0\r\n\r\n",
+        "BadHead",
+    ),
+    (
+        "POST /a HTTP/1.1\r\nTransfer-Encoding: chunked\r\n\r\n0\r\n\r\r\n",
+        "Cut",
     ),
 ];
 

@@ -3,7 +3,7 @@
 use super::first_misread;
 
 /// A stream, and what is read of it.
-static HEADS: [(&str, &str); 33] = [
+static HEADS: [(&str, &str); 35] = [
     ("", "End"),
     ("\r\n", "End"),
     ("\r", "End"),
@@ -40,6 +40,8 @@ static HEADS: [(&str, &str); 33] = [
     ("GET /\x01", "Cut"),
     ("GET /\x01 ", "BadHead"),
     ("GET /\x01\n", "BadHead"),
+    ("GET /\x01\r", "BadHead"),
+    ("\r\nGET /\x01", "Cut"),
 ];
 
 #[test]

@@ -3,7 +3,7 @@
 use super::first_misread;
 
 /// A stream, and what is read of it.
-static LENGTHS: [(&str, &str); 28] = [
+static LENGTHS: [(&str, &str); 33] = [
     (
         "POST /a HTTP/1.1\r\nContent-Length: 5\r\n\r\nhello",
         "POST /a[hello];End",
@@ -34,6 +34,7 @@ static LENGTHS: [(&str, &str); 28] = [
         "POST /a HTTP/1.1\r\nContent-Length:\r\n\r\nhello",
         "BadHead",
     ),
+    ("POST /a HTTP/1.1\r\nContent-Length: a\r\n\r\n", "BadHead"),
     (
         "POST /a HTTP/1.1\r\nContent-Length: 5\r\nContent-Length: 5\r\n\r\nhello",
         "POST /a[hello];End",
@@ -47,7 +48,15 @@ static LENGTHS: [(&str, &str); 28] = [
         "BadHead",
     ),
     (
+        "POST /a HTTP/1.1\r\nContent-Length: 5\r\nContent-Length: 5\r\nContent-Length: 6\r\n\r\nhello",
+        "BadHead",
+    ),
+    (
         "POST /a HTTP/1.1\r\nContent-Length: 5\r\nTransfer-Encoding: chunked\r\n\r\nhello",
+        "BadHead",
+    ),
+    (
+        "POST /a HTTP/1.1\r\nContent-Length: 5\r\nTransfer-Encoding: gzip\r\n\r\nhello",
         "BadHead",
     ),
     (
@@ -92,6 +101,14 @@ static LENGTHS: [(&str, &str); 28] = [
     ),
     (
         "POST /a HTTP/1.1\r\nTransfer-Encoding: gzip, chunked\r\n\r\n",
+        "Coding",
+    ),
+    (
+        "POST /a HTTP/1.1\r\nTransfer-Encoding: identity\r\n\r\n",
+        "Coding",
+    ),
+    (
+        "GET /a HTTP/1.1\r\nContent-Encoding: gzip\r\n\r\n",
         "Coding",
     ),
     (

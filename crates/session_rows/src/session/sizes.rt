@@ -16,7 +16,7 @@ fn repeated(alloc: Global, front: &str, part: &str, count: usize, back: &str) ->
 }
 
 /// A front, what is repeated, how often, a back, and of what is read of it the first word and how many bytes it has.
-static SIZES: [(&str, &str, usize, &str, &str, usize); 19] = [
+static SIZES: [(&str, &str, usize, &str, &str, usize); 20] = [
     ("GET / HTTP/1.1\r\nA: ", "a", 16361, "\r\n\r\n", "GET", 11),
     (
         "GET / HTTP/1.1\r\nA: ",
@@ -36,6 +36,14 @@ static SIZES: [(&str, &str, usize, &str, &str, usize); 19] = [
     ("GET / HTTP/1.1\r\n", "A: b\r\n", 65, "\r\n", "BadHead", 7),
     ("POST / HTTP/1.1\r\n", "A: b\r\n", 64, "\r\n", "NoLength", 8),
     ("POST / HTTP/1.1\r\n", "A: b\r\n", 65, "\r\n", "BadHead", 7),
+    (
+        "POST / HTTP/1.1\r\nContent-Encoding: gzip\r\n",
+        "A: b\r\n",
+        64,
+        "\r\n",
+        "BadHead",
+        7,
+    ),
     (
         "POST / HTTP/1.1\r\nContent-Length: 4194304\r\n\r\n",
         "x",
