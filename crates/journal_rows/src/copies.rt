@@ -233,6 +233,10 @@ fn a_longer_one_is_refused(rt: HostRuntime) -> Result<(), Fail> {
     let (a, b) = (empty_disk(alloc, &[], None)?, empty_disk(alloc, &[], None)?);
     let ran = run(alloc, Pair { a, b }, 30, &mut both())?;
     assert_eq!(rt; seen_of(ran), (Err(CompactFault::Full(31)), false, 1, 17));
+    // up to the first record that passes the limit
+    let (a, b) = (empty_disk(alloc, &[], None)?, empty_disk(alloc, &[], None)?);
+    let ran = run(alloc, Pair { a, b }, 23, &mut both())?;
+    assert_eq!(rt; seen_of(ran), (Err(CompactFault::Full(24)), false, 1, 17));
     Ok(())
 }
 

@@ -81,7 +81,10 @@ fn calls_fail_where_they_were_told_to(rt: HostRuntime) -> Result<(), Fail> {
     assert_eq!(rt; crashed.write_at(0, b"1234"), Ok(()));
     assert_eq!(rt; crashed.write_at(0, b"5"), Err(Failed));
     assert_eq!(rt; crashed.sync(), Ok(()));
-    assert_eq!(rt; crashed.len(), Ok(4));
+    for _ in 0..6 {
+        assert_eq!(rt; crashed.len(), Ok(4));
+    }
+    assert_eq!(rt; crashed.len(), Err(Failed));
     Ok(())
 }
 

@@ -15,7 +15,7 @@ use wfs_ends::{Mem, OutOfMemory};
 
 mod bodies;
 
-use bodies::{CHECKPOINT, OPENED_TWICE, ROWS, TAKEN};
+use bodies::{CHECKPOINTS, OPENED_TWICE, ROWS};
 
 const MARKS: &str = r#"
 title = "Marks"
@@ -168,17 +168,27 @@ fn first_other(alloc: Global, features: &Features, bodies: &[&[u8]]) -> Mem<Opti
 }
 
 // The first body that is another; none is left behind them.
-fn checkpointed(alloc: Global) -> Mem<Option<usize>> {
+fn first_changed(alloc: Global, bodies: &[&[u8]], want: &[&[u8]]) -> Mem<Option<usize>> {
     let mut replay = replay(alloc)?;
-    let refused = first_refused(&mut replay, TAKEN);
+    let refused = first_refused(&mut replay, bodies);
     if refused.is_some() {
         return Ok(Some(0));
     }
-    first_other(alloc, replay.features(), CHECKPOINT)
+    first_other(alloc, replay.features(), want)
+}
+
+// The first row that fails, and its first body that is another.
+fn first_checkpoint(alloc: Global) -> Mem<Option<(usize, usize)>> {
+    for (i, (bodies, want)) in CHECKPOINTS.iter().enumerate() {
+        if let Some(at) = first_changed(alloc, bodies, want)? {
+            return Ok(Some((i, at)));
+        }
+    }
+    Ok(None)
 }
 
 #[test]
 fn checkpoints_are_made(rt: HostRuntime) -> Result<(), Fail> {
-    assert_eq!(rt; checkpointed(rt.alloc())?, None);
+    assert_eq!(rt; first_checkpoint(rt.alloc())?, None);
     Ok(())
 }

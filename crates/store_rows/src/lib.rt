@@ -6,7 +6,11 @@ mod disks;
 #[cfg(test)]
 mod faults;
 #[cfg(test)]
+mod full;
+#[cfg(test)]
 mod held;
+#[cfg(test)]
+mod last;
 #[cfg(test)]
 mod long;
 #[cfg(test)]

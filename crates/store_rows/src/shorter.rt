@@ -5,7 +5,7 @@ ghost use Rattle.feature_schema.specs.Rules.{KeepsRules};
 
 use crate::disks::{hold, pair};
 use crate::requests::schema;
-use crate::sides::{AGAIN, SHORT, SHORT_AGAIN, TWO};
+use crate::sides::{AGAIN, SHORT, SHORT_AGAIN, STORED, TWO};
 use crate::starts::{limits, started};
 use disk_core::{Disk, MemDisk, Pair};
 use feature_values::Schema;
@@ -129,5 +129,25 @@ fn is_shorter(alloc: Global) -> Mem<bool> {
 #[test]
 fn a_journal_is_made_shorter(rt: HostRuntime) -> Result<(), Fail> {
     assert_eq!(rt; is_shorter(rt.alloc()), Ok(true));
+    Ok(())
+}
+
+// A stored query behind the first opening.
+const WITH_QUERY: Counts = Counts {
+    types: 3,
+    features: 0,
+    queries: 1,
+    openings: 1,
+};
+
+fn counts(alloc: Global) -> Mem<Option<Counts>> {
+    let schema = schema(alloc)?;
+    let mut disks = pair(alloc, STORED, &[])?;
+    Ok(counts_on(alloc, &mut disks, &schema))
+}
+
+#[test]
+fn a_stored_query_is_counted(rt: HostRuntime) -> Result<(), Fail> {
+    assert_eq!(rt; counts(rt.alloc()), Ok(Some(WITH_QUERY)));
     Ok(())
 }

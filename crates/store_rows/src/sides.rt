@@ -27,6 +27,11 @@ pub const HEAD_1: &[u8] = b"\x01WFSJNL\x01\0\0\0\0\0\0\0\x01";
 /// The same in generation 2.
 pub const HEAD_2: &[u8] = b"\x01WFSJNL\x01\0\0\0\0\0\0\0\x02";
 
+/// The same in the last generation but one, and in the last one.
+const HEAD_LAST_BUT_ONE: &[u8] = b"\x01WFSJNL\x01\xff\xff\xff\xff\xff\xff\xff\xfe";
+
+const HEAD_LAST: &[u8] = b"\x01WFSJNL\x01\xff\xff\xff\xff\xff\xff\xff\xff";
+
 /// The record of the first opening. Its gate is open; its body has 102 bytes (hexadecimal 66): 1, the number of the opening in 8 bytes, and
 /// the signature as a text, which has 89 bytes (59). 5 + 102 = 107 bytes.
 pub const OPENING_1: &[u8] =
@@ -55,6 +60,15 @@ const MARK_C: &[u8] =
 // Mark.1 and Mark.2 in one change. A part has 21 bytes, so the body has 5 + 2 x 21 = 47 (2f). 5 + 47 = 52 bytes.
 const MARKS_A_B: &[u8] =
     b"\x01\0\0\0\x2f\x02\0\0\0\x02\x01\0\0\0\0\0\0\0\0\0\x01\0\x03\x01\0\0\0\x01A\0\0\x01\0\0\0\0\0\0\0\0\0\x02\0\x03\x01\0\0\0\x01B\0\0";
+
+// The record of a change that creates the query q for all marks. Its body has 217 bytes (d9): 3, one query in 4 bytes; and of the query its
+// identifier of 1 byte, no title, no parameter, and its text of 195 bytes (c3), each length in 4 bytes. 5 + 217 = 222 bytes.
+const CREATED: &[u8] =
+    b"\x01\0\0\0\xd9\x03\0\0\0\x01\0\0\0\x01q\0\0\0\0\0\0\0\0\0\0\0\xc3<wfs:Query xmlns:wfs=\"http://www.opengis.net/wfs/2.0\" xmlns:fes=\"http://www.opengis.net/fes/2.0\" xmlns:gml=\"http://www.opengis.net/gml/3.2\" xmlns:m=\"http://example.org/marks\" typeNames=\"m:Mark\"/>";
+
+// What a checkpoint of the last opening but one begins with: its number is 999,999,999,999 (e8d4a50fff), and of no type a number was given.
+const BASE_LAST: &[u8] =
+    b"\x01\0\0\0\x23\x05\0\0\0\xe8\xd4\xa5\x0f\xff\0\x03\0\0\0\0\0\0\0\0\0\0\0\0\0\0\0\0\0\0\0\0\0\0\0\0";
 
 // What a checkpoint behind the second opening begins with. The body has 35 bytes (23): 5, the number of the opening in 8 bytes, three types
 // in 2, and 8 bytes for each: Mark.2 was the last number given, and none of the others. 5 + 35 = 40 bytes.
@@ -97,3 +111,15 @@ pub const SHORT: Side = (&[HEAD_2, BASE_2, MARKS_A_B, CLOSED], 109);
 
 /// Behind that the third opening: 107 more.
 pub const SHORT_AGAIN: Side = (&[HEAD_2, BASE_2, MARKS_A_B, OPENING_3, CLOSED], 216);
+
+/// The first opening and a stored query: 124 + 222.
+pub const STORED: Side = (&[HEAD_1, OPENING_1, CREATED, CLOSED], 346);
+
+/// A checkpoint of the last opening but one, with nothing: 16 + 40 + 1.
+pub const LAST_BUT_ONE: Side = (&[HEAD_2, BASE_LAST, CLOSED], 57);
+
+/// The first opening and Mark.1, as above, in the last generation but one.
+pub const OLDER: Side = (&[HEAD_LAST_BUT_ONE, OPENING_1, MARK_A, CLOSED], 155);
+
+/// And in the last one.
+pub const OLDEST: Side = (&[HEAD_LAST, OPENING_1, MARK_A, CLOSED], 155);

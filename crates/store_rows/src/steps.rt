@@ -124,7 +124,8 @@ fn request(alloc: Global, schema: &Schema, ask: Ask) -> Mem<Request>
     }
 }
 
-fn does<D: Disk>(alloc: Global, store: &mut Store<D>, schema: &Schema, ask: Ask) -> Mem<Told>
+/// What a store answers.
+pub fn does<D: Disk>(alloc: Global, store: &mut Store<D>, schema: &Schema, ask: Ask) -> Mem<Told>
     requires rules { KeepsRules schema.now }
     requires schema { store.old.schema ≡ schema.now }
     ensures { store.new.schema ≡ store.old.schema }

@@ -335,4 +335,17 @@ pub(super) static FAULTS: &[(&[u8], &[u8], u64, RecoverFault)] = &[
         30,
         RecoverFault::Full(31),
     ),
+    // a record is refused before the one behind it passes the limit, and passes it before the one behind it is torn
+    (
+        b"\x01WFSJNL\x01\0\0\0\0\0\0\0\x01\x01\0\0\0\x02?i\x01\0\0\0\x02ho\0",
+        EMPTY,
+        24,
+        RecoverFault::NotOfSchema(0),
+    ),
+    (
+        b"\x01WFSJNL\x01\0\0\0\0\0\0\0\x01\x01\0\0\0\x02hi\x01",
+        EMPTY,
+        23,
+        RecoverFault::Full(24),
+    ),
 ];

@@ -63,6 +63,10 @@ const BASE: &[u8] =
 const EIGHTH: &[u8] =
     b"\x01\0\0\0\0\0\0\0\x08\0\0\0YMark(label:text,size:integer,place:point);Field(name:text,area:polygon);Way(course:line);";
 
+/// The eighth opening of a schema that has one type less.
+const OTHER_EIGHTH: &[u8] =
+    b"\x01\0\0\0\0\0\0\0\x08\0\0\0HMark(label:text,size:integer,place:point);Field(name:text,area:polygon);";
+
 /// The beginning of a checkpoint before the first opening.
 const ZERO_BASE: &[u8] =
     b"\x05\0\0\0\0\0\0\0\0\0\x03\0\0\0\0\0\0\0\0\0\0\0\0\0\0\0\0\0\0\0\0\0\0\0\0";
@@ -77,6 +81,10 @@ const PAST_COUNTERS: &[u8] =
 /// A stored query with one parameter that it does not use.
 const CREATED: &[u8] =
     b"\x03\0\0\0\x01\0\0\0\x08urn:x:by\0\0\0\0\0\0\0\x01\0\0\0\x01l\0\0\0\xc3<wfs:Query xmlns:wfs=\"http://www.opengis.net/wfs/2.0\" xmlns:fes=\"http://www.opengis.net/fes/2.0\" xmlns:gml=\"http://www.opengis.net/gml/3.2\" xmlns:m=\"http://example.org/marks\" typeNames=\"m:Mark\"/>";
+
+/// The same under another identifier.
+const CREATED_NEXT: &[u8] =
+    b"\x03\0\0\0\x01\0\0\0\x08urn:x:to\0\0\0\0\0\0\0\x01\0\0\0\x01l\0\0\0\xc3<wfs:Query xmlns:wfs=\"http://www.opengis.net/wfs/2.0\" xmlns:fes=\"http://www.opengis.net/fes/2.0\" xmlns:gml=\"http://www.opengis.net/gml/3.2\" xmlns:m=\"http://example.org/marks\" typeNames=\"m:Mark\"/>";
 
 /// The same identifier twice.
 const CREATED_TWICE: &[u8] =
@@ -118,6 +126,7 @@ pub(super) static ROWS: &[Row] = &[
     (&[ZERO_BASE, OPENING], None),
     (&[SECOND], Some((0, ReplayFault::NotOfSchema))),
     (&[OTHER], Some((0, ReplayFault::NotOfSchema))),
+    (&[BASE, OTHER_EIGHTH], Some((1, ReplayFault::NotOfSchema))),
     (&[INSERT], Some((0, ReplayFault::NotOfSchema))),
     (&[NO_PARTS], Some((0, ReplayFault::NotOfSchema))),
     (&[OPENING, OPENING], Some((1, ReplayFault::NotOfSchema))),
@@ -170,10 +179,28 @@ const SECOND_MARK: &[u8] = b"\x02\0\0\0\x01\x01\0\0\0\0\0\0\0\0\0\x02\0\x03\x01\
 const FIRST_BASE: &[u8] =
     b"\x05\0\0\0\0\0\0\0\x01\0\x03\0\0\0\0\0\0\0\x02\0\0\0\0\0\0\0\0\0\0\0\0\0\0\0\0";
 
-/// Bodies, and those of a checkpoint of what they come to: one mark of the two is left.
-pub(super) static TAKEN: &[&[u8]] = &[OPENING, CREATED, INSERT, SWAP, DROPPED, CREATED];
+/// The beginning of a checkpoint of the first opening, in which nothing was numbered.
+const EMPTY_BASE: &[u8] =
+    b"\x05\0\0\0\0\0\0\0\x01\0\x03\0\0\0\0\0\0\0\0\0\0\0\0\0\0\0\0\0\0\0\0\0\0\0\0";
 
-pub(super) static CHECKPOINT: &[&[u8]] = &[FIRST_BASE, SECOND_MARK, CREATED];
+/// Bodies, and those of a checkpoint of what they come to.
+pub(super) static CHECKPOINTS: &[(&[&[u8]], &[&[u8]])] = &[
+    // there is no record of no features
+    (&[OPENING], &[EMPTY_BASE]),
+    // one mark of the two is left, and each stored query has a record of its own
+    (
+        &[
+            OPENING,
+            CREATED,
+            INSERT,
+            SWAP,
+            DROPPED,
+            CREATED,
+            CREATED_NEXT,
+        ],
+        &[FIRST_BASE, SECOND_MARK, CREATED, CREATED_NEXT],
+    ),
+];
 
 /// Two openings with one number, of which the second is refused.
 pub(super) static OPENED_TWICE: &[&[u8]] = &[OPENING, OPENING];
