@@ -38,7 +38,7 @@ const THREE: Ask = Ask::Transact(
 
 const LOCK: Option<(u64, u64)> = Some((1, 1));
 
-static RUNS: [(&str, &[Step]); 15] = [
+static RUNS: [(&str, &[Step]); 17] = [
     (
         "a lock on one, on all, and on those that are free",
         &[
@@ -229,6 +229,61 @@ static RUNS: [(&str, &[Step]); 15] = [
                 Ask::Lock(None, Take::AllOrNone, 300),
                 Want::Locked(Some((1, 2)), &[1, 2, 3], &[]),
             ),
+        ],
+    ),
+    (
+        "releases that free nothing move the deadline, and a renewal tells what is left",
+        &[
+            (1000, THREE, Want::Told(&[1, 2, 3], &[], &[], 0)),
+            (
+                1000,
+                Ask::Lock(None, Take::AllOrNone, 100),
+                Want::Locked(LOCK, &[1, 2, 3], &[]),
+            ),
+            (
+                1050,
+                Ask::Transact(LOCK, Release::Touched, &[]),
+                Want::Told(&[], &[], &[], 0),
+            ),
+            (
+                1149,
+                Ask::Transact(LOCK, Release::Touched, &[Deed::Insert(40)]),
+                Want::Told(&[4], &[], &[], 0),
+            ),
+            (
+                1248,
+                Ask::Transact(LOCK, Release::Touched, &[Deed::Delete(Some(4))]),
+                Want::Told(&[], &[], &[], 1),
+            ),
+            (1347, Ask::Renew(1, 1), Want::Locked(LOCK, &[1, 2, 3], &[])),
+            (
+                1347,
+                Ask::Transact(LOCK, Release::Touched, &[Deed::Update(Some(2), 5)]),
+                Want::Told(&[], &[2], &[], 0),
+            ),
+            (1347, Ask::Renew(1, 1), Want::Locked(LOCK, &[1, 3], &[])),
+        ],
+    ),
+    (
+        "a release of nothing, and the deadline that it moved",
+        &[
+            (1000, TWO, Want::Told(&[1, 2], &[], &[], 0)),
+            (
+                1000,
+                Ask::Lock(None, Take::AllOrNone, 100),
+                Want::Locked(LOCK, &[1, 2], &[]),
+            ),
+            (
+                1050,
+                Ask::Transact(LOCK, Release::Touched, &[]),
+                Want::Told(&[], &[], &[], 0),
+            ),
+            (
+                1149,
+                Ask::Transact(None, Release::Whole, &[Deed::Delete(Some(2))]),
+                Want::Row(18, "lockId"),
+            ),
+            (1150, Ask::Renew(1, 1), Want::Row(16, "lockId")),
         ],
     ),
     (

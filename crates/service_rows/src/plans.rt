@@ -68,7 +68,7 @@ const SECOND: LockId = LockId {
     number: 2,
 };
 
-static CASES: [Case; 16] = [
+static CASES: [Case; 18] = [
     (
         "all, of which one is held",
         1000,
@@ -172,6 +172,22 @@ static CASES: [Case; 16] = [
         Answer::Transacted(0, &[]),
         Kept::Nothing,
         Work::Release(1, &[], Release::Whole),
+    ),
+    (
+        "no action, of which the lock keeps all",
+        1000,
+        Ask::Transact(Some(FIRST), Release::Touched, None, false),
+        Answer::Transacted(0, &[]),
+        Kept::Nothing,
+        Work::Release(1, &[], Release::Touched),
+    ),
+    (
+        "one comes, of which the lock keeps all",
+        1000,
+        Ask::Transact(Some(FIRST), Release::Touched, None, true),
+        Answer::Transacted(0, &[4]),
+        Kept::Rows(&[], &[4]),
+        Work::Release(1, &[], Release::Touched),
     ),
     (
         "one goes and another comes",

@@ -2,7 +2,7 @@
 
 ghost use Rattle.wfs_model.specs.Playable.{AreQueriesOf};
 
-use feature_values::{Feature, Rid};
+use feature_values::{Feature, Rid, Value};
 use feature_versions::Features;
 use fes_filter::FeatureView;
 use marks::{area, change, schema};
@@ -106,6 +106,13 @@ static FIRST: [(Done, bool); 6] = [
     (Done::Begins(9, &[3, 0, 0]), false),
 ];
 
+/// Behind each of these alone no checkpoint begins: an opening, a number that was given, and a stored query.
+static ALONE: [Done; 3] = [
+    Done::Opens(1),
+    Done::Begins(0, &[0, 1]),
+    Done::Makes(&[("urn:q", &[])]),
+];
+
 // Plays a change where it may be played.
 fn play(alloc: Global, features: &mut Features, change: Change) -> Mem<bool>
     requires { AreQueriesOf features.old.schema change }
@@ -162,9 +169,27 @@ fn later_wrong(alloc: Global) -> Mem<Option<usize>> {
     judged_wrong(alloc, &features, &JUDGED)
 }
 
+// Whether a checkpoint may begin behind a change.
+fn begins_behind(alloc: Global, done: &Done) -> Mem<bool> {
+    let mut features = empty(alloc)?;
+    let _played = play(alloc, &mut features, change(alloc, done)?)?;
+    features.accepts(alloc, &change(alloc, &Done::Begins(1, &[2, 7]))?)
+}
+
+// The first change behind which a checkpoint begins.
+fn begun_behind(alloc: Global) -> Mem<Option<usize>> {
+    for (i, done) in ALONE.iter().enumerate() {
+        if begins_behind(alloc, done)? {
+            return Ok(Some(i));
+        }
+    }
+    Ok(None)
+}
+
 #[test]
 fn changes_are_judged(rt: HostRuntime) {
     assert_eq!(rt; first_wrong(rt.alloc()), Ok(None));
+    assert_eq!(rt; begun_behind(rt.alloc()), Ok(None));
     assert_eq!(rt; later_wrong(rt.alloc()), Ok(None));
 }
 
@@ -178,6 +203,7 @@ static PLAYED: [Done; 6] = [
         Lay::Other((0, 3, "C", Some((200_000, 0)), Some((3, 3)))),
         Lay::Other((0, 4, "D", None, None)),
         Lay::Other((0, 12, "E", Some((0, 0)), Some((0, 0)))),
+        Lay::Other((1, 2, "J", None, None)),
         Lay::Other((1, 5, "F", Some((0, 0)), None)),
     ]),
     Done::Opens(5),
@@ -189,6 +215,8 @@ static PLAYED: [Done; 6] = [
         Lay::Gone(0, 4),
         Lay::Other((0, 3, "H", Some((200_000, 0)), Some((4, 4)))),
         Lay::Other((0, 2, "I", Some((70_000, 0)), None)),
+        Lay::Gone(1, 2),
+        Lay::Other((1, 5, "K", Some((0, 0)), None)),
     ]),
 ];
 
@@ -207,11 +235,21 @@ static NEAR: [(u32, [i64; 4], &[u64]); 7] = [
     (2, [5, 5, 6, 6], &[]),
 ];
 
-static WALKED: [Rid; 4] = [
-    Rid { kind: 0, number: 1 },
-    Rid { kind: 0, number: 2 },
-    Rid { kind: 0, number: 3 },
-    Rid { kind: 1, number: 5 },
+/// Each with the label that it was put with last, in the same place or another.
+static WALKED: [(Rid, &str); 4] = [
+    (Rid { kind: 0, number: 1 }, "A"),
+    (Rid { kind: 0, number: 2 }, "I"),
+    (Rid { kind: 0, number: 3 }, "H"),
+    (Rid { kind: 1, number: 5 }, "K"),
+];
+
+/// What comes next behind identifiers whose features are gone or never were.
+static BEHIND: [(Rid, Option<Rid>); 5] = [
+    (Rid { kind: 0, number: 0 }, Some(Rid { kind: 0, number: 1 })),
+    (Rid { kind: 0, number: 4 }, Some(Rid { kind: 1, number: 5 })),
+    (Rid { kind: 1, number: 2 }, Some(Rid { kind: 1, number: 5 })),
+    (Rid { kind: 1, number: 6 }, None),
+    (Rid { kind: 2, number: 1 }, None),
 ];
 
 fn is_among(ids: &[Rid], kind: u32, number: u64) -> bool {
@@ -254,9 +292,16 @@ fn near_wrong(alloc: Global, features: &Features) -> Mem<Option<usize>> {
     Ok(None)
 }
 
-fn is_found(found: Option<&Feature>, id: Rid) -> bool {
+fn is_labelled(feature: &Feature, label: &str) -> bool {
+    match feature.items().first() {
+        Some(Value::Words(words)) => words.as_str() == label,
+        _ => false,
+    }
+}
+
+fn is_found(found: Option<&Feature>, id: Rid, label: &str) -> bool {
     match found {
-        Some(feature) => feature.id == id,
+        Some(feature) => feature.id == id && is_labelled(feature, label),
         None => false,
     }
 }
@@ -265,8 +310,8 @@ fn is_found(found: Option<&Feature>, id: Rid) -> bool {
 fn walks(features: &Features) -> bool {
     let mut after = None;
     let mut place = 0;
-    for id in WALKED.iter() {
-        if !is_found(features.walk(after, &mut place), *id) {
+    for (id, label) in WALKED.iter() {
+        if !is_found(features.walk(after, &mut place), *id, label) {
             return false;
         }
         after = Some(*id);
@@ -275,8 +320,30 @@ fn walks(features: &Features) -> bool {
 }
 
 fn finds(features: &Features) -> bool {
-    for id in WALKED.iter() {
-        if !is_found(features.get(*id), *id) {
+    for (id, label) in WALKED.iter() {
+        if !is_found(features.get(*id), *id, label) {
+            return false;
+        }
+    }
+    true
+}
+
+fn is_next(found: Option<&Feature>, next: Option<Rid>) -> bool {
+    match (found, next) {
+        (Some(feature), Some(id)) => feature.id == id,
+        (None, None) => true,
+        _ => false,
+    }
+}
+
+// Whether nothing is found under these identifiers, and what is behind them.
+fn goes_on(features: &Features) -> bool {
+    for (id, next) in BEHIND.iter() {
+        let mut place = 0;
+        if features.get(*id).is_some()
+            || !is_next(features.next(Some(*id)), *next)
+            || !is_next(features.walk(Some(*id), &mut place), *next)
+        {
             return false;
         }
     }
@@ -297,19 +364,20 @@ fn tells(features: &Features) -> bool {
         && features.stored().list().len() == 1
 }
 
-// What is wrong: the first box, the walk, the look-ups, the counts, or what else is told.
-fn wrong(alloc: Global, features: &Features) -> Mem<(Option<usize>, [bool; 4])> {
+// What is wrong: the first box, the walk, the look-ups, what is behind others, the counts, or what else is told.
+fn wrong(alloc: Global, features: &Features) -> Mem<(Option<usize>, [bool; 5])> {
     let near = near_wrong(alloc, features)?;
     let rest = [
         walks(features),
         finds(features),
+        goes_on(features),
         counts(features),
         tells(features),
     ];
     Ok((near, rest))
 }
 
-fn filled_wrong(alloc: Global) -> Mem<(Option<usize>, [bool; 4])> {
+fn filled_wrong(alloc: Global) -> Mem<(Option<usize>, [bool; 5])> {
     let features = after(alloc, &PLAYED)?;
     wrong(alloc, &features)
 }
@@ -319,17 +387,17 @@ fn copied(alloc: Global) -> Mem<Features> {
     features.copy(alloc)
 }
 
-fn copied_wrong(alloc: Global) -> Mem<(Option<usize>, [bool; 4])> {
+fn copied_wrong(alloc: Global) -> Mem<(Option<usize>, [bool; 5])> {
     let copy = copied(alloc)?;
     wrong(alloc, &copy)
 }
 
 #[test]
 fn what_is_kept_is_found(rt: HostRuntime) {
-    assert_eq!(rt; filled_wrong(rt.alloc()), Ok((None, [true; 4])));
+    assert_eq!(rt; filled_wrong(rt.alloc()), Ok((None, [true; 5])));
 }
 
 #[test]
 fn what_is_copied_is_found(rt: HostRuntime) {
-    assert_eq!(rt; copied_wrong(rt.alloc()), Ok((None, [true; 4])));
+    assert_eq!(rt; copied_wrong(rt.alloc()), Ok((None, [true; 5])));
 }
