@@ -298,6 +298,38 @@ static LOCKS: [Run; 2] = [
     ),
 ];
 
+const TWO_LOCKED: &[&str] = &[
+    "<?xml version=\"1.0\" encoding=\"UTF-8\"?><wfs:LockFeatureResponse xmlns:wfs=\"http://www.opengis.net/wfs/2.0\" xmlns:fes=\"http://www.opengis.net/fes/2.0\" lockId=\"lock-1-1\"><wfs:FeaturesLocked><fes:ResourceId rid=\"Mark.1\"/><fes:ResourceId rid=\"Mark.2\"/></wfs:FeaturesLocked></wfs:LockFeatureResponse>",
+];
+
+static RENEWED: [Run; 1] = [(
+    TALK,
+    &[
+        ("", TWO_MARKS),
+        (
+            "GET /wfs?service=WFS&request=LockFeature&typeNames=Mark HTTP/1.1\r\nHost: h\r\n\r\n",
+            "",
+        ),
+        (
+            "GET /wfs?service=WFS&request=LockFeature&lockId=lock-1-1 HTTP/1.1\r\nHost: h\r\n\r\n",
+            "",
+        ),
+    ],
+    0,
+    &[
+        ("200 OK", "text/xml", "", &[INSERTED]),
+        ("200 OK", "text/xml", "", TWO_LOCKED),
+        ("200 OK", "text/xml", "", TWO_LOCKED),
+    ],
+    "",
+)];
+
+#[test]
+fn a_renewal_tells_what_the_lock_holds(rt: HostRuntime) -> Result<(), Fail> {
+    assert_eq!(rt; go_on(&rt, rt.alloc(), &RENEWED), Ok(true));
+    Ok(())
+}
+
 #[test]
 fn locks_end_with_their_run(rt: HostRuntime) -> Result<(), Fail> {
     assert_eq!(rt; come_to(&rt, rt.alloc(), &LOCKS, 283, 0), Ok(true));
@@ -424,6 +456,32 @@ static OF_THREE: [Run; 1] = [(
     "rounds 3 entries 6 features 3 matched 3 locked 3\n",
 )];
 
+// The first draws of a drill of one are 2,235 and 168,735.
+static OF_ONE: [Run; 2] = [
+    (
+        &["drill", "1", "d"],
+        &[],
+        0,
+        &[],
+        "rounds 1 entries 2 features 1 matched 1 locked 1\n",
+    ),
+    (
+        TALK,
+        &[(
+            "GET /wfs?service=WFS&request=GetFeature&typeNames=Mark&bbox=2235,168735,2235,168735&resultType=hits HTTP/1.1\r\nHost: h\r\n\r\n",
+            "",
+        )],
+        0,
+        &[(
+            "200 OK",
+            FEATURES,
+            "",
+            &[COLLECTION, "1\" numberReturned=\"0\"/>"],
+        )],
+        "",
+    ),
+];
+
 static OF_FOUR: [Run; 2] = [
     (
         &["drill", "+4", "d"],
@@ -447,7 +505,8 @@ fn go_on<R: Threads + Wait + Sync>(rt: &R, alloc: Global, runs: &[Run]) -> Mem<b
 
 #[test]
 fn a_drill_tells_what_it_came_to(rt: HostRuntime) -> Result<(), Fail> {
-    assert_eq!(rt; go_on(&rt, rt.alloc(), &OF_THREE), Ok(true), "three rounds");
+    assert_eq!(rt; go_on(&rt, rt.alloc(), &OF_ONE), Ok(true), "one round");
+    assert_eq!(rt; go_on(&rt, rt.alloc(), &OF_THREE), Ok(true), "three");
     assert_eq!(rt; go_on(&rt, rt.alloc(), &OF_FOUR), Ok(true), "four");
     Ok(())
 }
