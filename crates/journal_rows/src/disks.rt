@@ -128,13 +128,29 @@ fn a_file_stays_and_is_one_disks_at_a_time(rt: HostRuntime) -> Result<(), Fail> 
     Ok(())
 }
 
-// The device takes no byte, and cannot be synced.
+// A piece of which the system takes a part is written to its end, or the call fails. On ext4 a file ends at
+// 17,592,186,040,320 bytes, so that the system takes three of these six; where files may be longer it takes all.
 #[test]
-fn a_full_device_fails_and_a_lost_sync_fails_ever_after(rt: HostRuntime) -> Result<(), Fail> {
+fn a_piece_is_written_to_its_end_or_fails(rt: HostRuntime) -> Result<(), Fail> {
+    let name = "a_file_as_long_as_may_be";
+    let at = 17_592_186_040_317;
+    let mut disk = FileDisk::of(rt, Text::of(rt.alloc(), name)?);
+    let mut into = [0; 8];
+    if disk.write_framed(at, b"ab", b"cd", b"ef").is_ok() {
+        assert_eq!(rt; disk.read(at, &mut into)?, 6);
+        assert_eq!(rt; into, *b"abcdef\0\0");
+    }
+    fs::remove_file(&rt, name)?;
+    Ok(())
+}
+
+// The device is opened, as its length tells. It takes no byte, and cannot be synced.
+#[test]
+fn a_full_device_fails_at_each_call(rt: HostRuntime) -> Result<(), Fail> {
     let mut full = FileDisk::of(rt, Text::of(rt.alloc(), "/dev/full")?);
+    assert_eq!(rt; full.len(), Ok(0));
     assert_eq!(rt; full.write_at(0, b"a"), Err(Failed));
     assert_eq!(rt; full.write_framed(0, b"a", b"b", b"c"), Err(Failed));
-    assert_eq!(rt; full.sync(), Err(Failed));
     assert_eq!(rt; full.sync(), Err(Failed));
     Ok(())
 }

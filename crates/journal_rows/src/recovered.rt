@@ -7,7 +7,7 @@ ghost use Rattle.recovery.specs.Replay.Verdict.{accepted, bad_bytes, not_of_sche
 use crate::crashes::leaves;
 use disk_core::{Disk, MemDisk, Pair};
 use recovery::{Place, RecoverFault, Replay, ReplayFault, look_over, recover};
-use rows::{EMPTY, FAULTS, JOURNALS, NEW, NO_JOURNALS};
+use rows::{EMPTY, FAULTS, JOURNALS, LEFT, NEW, NO_JOURNALS};
 use std::alloc::Global;
 use std::test::Fail;
 use stops::STOPS;
@@ -185,6 +185,38 @@ fn first_left_otherwise(alloc: Global) -> Mem<Option<usize>> {
     Ok(None)
 }
 
+// Looks over two disks, or recovers them: whether that is answered so, and the disks.
+fn ask<D: Disk + Drop>(
+    alloc: Global,
+    disks: Pair<D>,
+    is_recovery: bool,
+    want: &Result<u64, RecoverFault>,
+) -> (bool, Pair<D>) {
+    if is_recovery {
+        match recover(alloc, disks, 1000, &mut new_keeper(alloc)) {
+            Ok(journal) => (*want == Ok(journal.side_length()), journal.into_disks()),
+            Err((disks, fault)) => (*want == Err(fault), disks),
+        }
+    } else {
+        let mut disks = disks;
+        let length = look_over(alloc, &mut disks, 1000, &mut new_keeper(alloc));
+        (*want == length, disks)
+    }
+}
+
+fn first_written(alloc: Global) -> Mem<Option<usize>> {
+    for (i, (a, b, is_recovery, want)) in LEFT.iter().enumerate() {
+        let disks = Pair {
+            a: disk_of(alloc, a, None)?,
+            b: disk_of(alloc, b, None)?,
+        };
+        if !ends_so(ask(alloc, disks, *is_recovery, want), true, 9, a, b) {
+            return Ok(Some(i));
+        }
+    }
+    Ok(None)
+}
+
 // The first row that fails is None.
 #[test]
 fn new_journals_are_made(rt: HostRuntime) -> Result<(), Fail> {
@@ -210,6 +242,12 @@ fn other_files_are_refused(rt: HostRuntime) -> Result<(), Fail> {
 fn a_new_journal_needs_its_room(rt: HostRuntime) -> Result<(), Fail> {
     let want = (Ok(0), Err(RecoverFault::Full(17)));
     assert_eq!(rt; answers_on(rt.alloc(), EMPTY, EMPTY, 16)?, want);
+    Ok(())
+}
+
+#[test]
+fn looks_and_refusals_write_nothing(rt: HostRuntime) -> Result<(), Fail> {
+    assert_eq!(rt; first_written(rt.alloc())?, None);
     Ok(())
 }
 

@@ -1,6 +1,6 @@
 //! Pairs of files, and what recovery answers for each.
 
-use recovery::RecoverFault;
+use recovery::{Place, RecoverFault};
 
 pub(super) const EMPTY: &[u8] = b"";
 
@@ -283,6 +283,39 @@ pub(super) static NO_JOURNALS: &[(&[u8], &[u8], u64, bool, u64)] = &[
         17,
         false,
         16,
+    ),
+];
+
+// Both files, whether they are recovered, or else looked over, and what is answered: the length of the journal, or why
+// it is refused. Both files are left as they were.
+pub(super) static LEFT: &[(&[u8], &[u8], bool, Result<u64, RecoverFault>)] = &[
+    // looks: no side is current; the ending gate is torn beside a stale side; a side is refused beside a stale one
+    (EMPTY, EMPTY, false, Ok(0)),
+    (TAILED, STALE, false, Ok(24)),
+    (
+        b"\x01WFSJNL\x01\0\0\0\0\0\0\0\x01\x01",
+        STALE,
+        false,
+        Err(RecoverFault::NotAJournal(Place {
+            second_side: false,
+            at: 16,
+        })),
+    ),
+    // recoveries of a side that is refused beside a stale one: no record is whole, or one does not fit
+    (
+        b"\x01WFSJNL\x01\0\0\0\0\0\0\0\x01\x01",
+        STALE,
+        true,
+        Err(RecoverFault::NotAJournal(Place {
+            second_side: false,
+            at: 16,
+        })),
+    ),
+    (
+        b"\x01WFSJNL\x01\0\0\0\0\0\0\0\x01\x01\0\0\0\x02?i\x05",
+        STALE,
+        true,
+        Err(RecoverFault::NotOfSchema(0)),
     ),
 ];
 
