@@ -3,7 +3,7 @@
 use super::first_misread;
 
 /// A stream, and what is read of it.
-static CHUNKS: [(&str, &str); 22] = [
+static CHUNKS: [(&str, &str); 23] = [
     (
         "POST /a HTTP/1.1\r\nTransfer-Encoding: CHUNKED\r\n\r\n5\r\nhello\r\n0\r\n\r\n",
         "POST /a[hello];End",
@@ -70,6 +70,10 @@ static CHUNKS: [(&str, &str); 22] = [
     ),
     (
         "POST /a HTTP/1.1\r\nTransfer-Encoding: chunked\r\n\r\n0\r\nA: b\r\n",
+        "Cut",
+    ),
+    (
+        "POST /a HTTP/1.1\r\nTransfer-Encoding: chunked\r\n\r\n0\r\nA\n",
         "Cut",
     ),
     (

@@ -41,7 +41,7 @@ fn first_misjudged<'a>(
 
 /// A stream, its first piece and the others, the room for what is written, the take and the put that fail, and what is
 /// read.
-static FAULTS: [(&str, (usize, usize), u64, (u64, u64), &str); 18] = [
+static FAULTS: [(&str, (usize, usize), u64, (u64, u64), &str); 22] = [
     ("", (9, 9), 100, (0, NEVER), "ReadFault"),
     (
         "GET / HTTP/1.1\r\n\r\n",
@@ -83,6 +83,34 @@ static FAULTS: [(&str, (usize, usize), u64, (u64, u64), &str); 18] = [
         (20, 99),
         100,
         (2, NEVER),
+        "GET /[];ReadFault",
+    ),
+    (
+        "GET / HTTP/1.1\r\nHost: h\r\n\r\n",
+        (25, 99),
+        100,
+        (2, NEVER),
+        "GET /[];ReadFault",
+    ),
+    (
+        "GET / HTTP/1.1\r\nHost: h\r\n\r\n",
+        (26, 99),
+        100,
+        (2, NEVER),
+        "GET /[];ReadFault",
+    ),
+    (
+        "GET / HTTP/1.1\r\nHost: h\r\n\r\n",
+        (16, 9),
+        100,
+        (3, NEVER),
+        "GET /[];ReadFault",
+    ),
+    (
+        "GET / HTTP/1.1\r\nHost: h\r\n\r\n",
+        (16, 10),
+        100,
+        (3, NEVER),
         "GET /[];ReadFault",
     ),
     (

@@ -16,7 +16,7 @@ fn repeated(alloc: Global, front: &str, part: &str, count: usize, back: &str) ->
 }
 
 /// A front, what is repeated, how often, a back, and of what is read of it the first word and how many bytes it has.
-static SIZES: [(&str, &str, usize, &str, &str, usize); 22] = [
+static SIZES: [(&str, &str, usize, &str, &str, usize); 24] = [
     ("GET / HTTP/1.1\r\nA: ", "a", 16361, "\r\n\r\n", "GET", 11),
     (
         "GET / HTTP/1.1\r\nA: ",
@@ -29,11 +29,13 @@ static SIZES: [(&str, &str, usize, &str, &str, usize); 22] = [
     ("GET / HTTP/1.1\r\nA: ", "a", 16362, "\r\n", "Cut", 3),
     ("GET /", "a", 16366, " HTTP/1.1\r\n\r\n", "GET", 16377),
     ("GET /", "a", 16367, " HTTP/1.1\r\n\r\n", "TooLarge", 8),
+    ("", "M", 16369, " / HTTP/1.1\r\n\r\n", "MMM", 16377),
     ("GET /", "\x01", 16379, "", "TooLarge", 8),
     ("G(T /", "a", 16379, "", "BadHead", 7),
     ("", "\r\n", 8192, "", "TooLarge", 8),
     ("GET / HTTP/1.1\r\n", "A: b\r\n", 64, "\r\n", "GET", 11),
     ("GET / HTTP/1.1\r\n", "A: b\r\n", 65, "\r\n", "BadHead", 7),
+    ("GET / HTTP/1.1\r\n", "A: b\r\n", 65, "", "Cut", 3),
     ("POST / HTTP/1.1\r\n", "A: b\r\n", 64, "\r\n", "NoLength", 8),
     ("POST / HTTP/1.1\r\n", "A: b\r\n", 65, "\r\n", "BadHead", 7),
     (
