@@ -12,12 +12,14 @@ enum Line {
     Sides,
     Rounds,
     Place,
+    Second,
     Record,
     Refused,
     Kind,
+    Twice,
 }
 
-static LINES: [(Line, &str); 8] = [
+static LINES: [(Line, &str); 10] = [
     (Line::Serving, "serving\n"),
     (Line::Counts, "types 3 features 2 queries 0 openings 1\n"),
     (Line::Sides, "side 283 to 208 bytes\n"),
@@ -26,9 +28,11 @@ static LINES: [(Line, &str); 8] = [
         "rounds 4 entries 9 features 3 matched 4 locked 2\n",
     ),
     (Line::Place, "wfsd: not a journal: a 1\n"),
+    (Line::Second, "wfsd: not a journal: b 7\n"),
     (Line::Record, "wfsd: not of this schema: 17\n"),
     (Line::Refused, "wfsd: schema refused: Key title\n"),
     (Line::Kind, "wfsd: schema refused: Kind title\n"),
+    (Line::Twice, "wfsd: schema refused: Twice title\n"),
 ];
 
 fn write(sink: &mut MemSink, line: Line, name: Text) -> bool {
@@ -41,6 +45,10 @@ fn write(sink: &mut MemSink, line: Line, name: Text) -> bool {
             say_place(sink, false, 1);
             false
         }
+        Line::Second => {
+            say_place(sink, true, 7);
+            false
+        }
         Line::Record => {
             say_record(sink, 17);
             false
@@ -51,6 +59,10 @@ fn write(sink: &mut MemSink, line: Line, name: Text) -> bool {
         }
         Line::Kind => {
             say_refused(sink, &SchemaFault::Kind(name));
+            false
+        }
+        Line::Twice => {
+            say_refused(sink, &SchemaFault::Twice(name));
             false
         }
     }
