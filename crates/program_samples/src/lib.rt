@@ -14,5 +14,5 @@ pub use messages::{
 };
 pub use runs::{
     End, Left, Ready, disk_with, empty, end_of, go_empty, hold, hold_with, left_by, make_ready,
-    make_ready_at, run, talk, text_of,
+    make_ready_at, make_ready_failing, run, talk, text_of,
 };

@@ -120,6 +120,23 @@ pub fn make_ready(
     make_ready_at(alloc, clock, words, schema, input, failing, room)
 }
 
+/// One without input, of which the listed takes of the schema fail.
+pub fn make_ready_failing(
+    alloc: Global,
+    words: &[&str],
+    schema: &str,
+    failing: &[u64],
+    room: u64,
+) -> Mem<Ready> {
+    Ok(Ready {
+        words: words_of(alloc, words)?,
+        schema: source(alloc, schema, failing)?,
+        input: source(alloc, "", &[])?,
+        out: MemSink::new(alloc, room, Vec::new(alloc))?,
+        clock: ListClock::new(vec![in alloc; 1000u64]?),
+    })
+}
+
 /// Does a run on these disks, with these doors: what it leaves, and its output.
 pub fn hold_with<R: Threads + Wait + Sync>(
     rt: &R,

@@ -2,9 +2,9 @@
 
 use disk_core::{Disk, MemDisk, Pair};
 use program_samples::{
-    Answer, COLLECTION, FEATURES, INSERTED, LOCKED, Left, Message, REPORT, REPORT_END,
+    Answer, COLLECTION, End, FEATURES, INSERTED, LOCKED, Left, Message, REPORT, REPORT_END,
     REPORT_LOCATOR, REPORT_TEXT, Ready, SCHEMA, TWO_MARKS, answers_of, disk_with, empty, end_of,
-    hold, make_ready, messages_of, run,
+    hold, make_ready, make_ready_failing, messages_of, run,
 };
 use std::alloc::Global;
 use std::sync::Wait;
@@ -499,6 +499,27 @@ static OF_FOUR: [Run; 2] = [
     ),
 ];
 
+// The drill's mark is at its first draws. The first of these lies in its square, the second in the surroundings alone.
+static BESIDE: [Run; 2] = [
+    (
+        TALK,
+        &[(
+            "",
+            "<m:Mark><m:label>A</m:label><m:place><gml:Point xmlns:gml=\"http://www.opengis.net/gml/3.2\"><gml:pos>2240 168740</gml:pos></gml:Point></m:place></m:Mark><m:Mark><m:label>B</m:label><m:place><gml:Point xmlns:gml=\"http://www.opengis.net/gml/3.2\"><gml:pos>10000 168735</gml:pos></gml:Point></m:place></m:Mark>",
+        )],
+        0,
+        &[("200 OK", "text/xml", "", &[INSERTED])],
+        "",
+    ),
+    (
+        &["drill", "1", "d"],
+        &[],
+        0,
+        &[],
+        "rounds 1 entries 2 features 3 matched 3 locked 2\n",
+    ),
+];
+
 fn go_on<R: Threads + Wait + Sync>(rt: &R, alloc: Global, runs: &[Run]) -> Mem<bool> {
     Ok(go_all(rt, alloc, runs)?.is_some())
 }
@@ -508,6 +529,7 @@ fn a_drill_tells_what_it_came_to(rt: HostRuntime) -> Result<(), Fail> {
     assert_eq!(rt; go_on(&rt, rt.alloc(), &OF_ONE), Ok(true), "one round");
     assert_eq!(rt; go_on(&rt, rt.alloc(), &OF_THREE), Ok(true), "three");
     assert_eq!(rt; go_on(&rt, rt.alloc(), &OF_FOUR), Ok(true), "four");
+    assert_eq!(rt; go_on(&rt, rt.alloc(), &BESIDE), Ok(true), "beside others");
     Ok(())
 }
 
@@ -615,20 +637,51 @@ fn a_journal_of_another_schema_is_refused(rt: HostRuntime) -> Result<(), Fail> {
     Ok(())
 }
 
-// Whether a command with so little room for its line ends with status 7 behind a front of it.
-fn is_cut_off<R: Threads + Wait + Sync>(
+// Whether a session over a schema of one byte, behind which its source fails, comes to this status and line.
+fn says_unread<R: Threads + Wait + Sync>(
     rt: &R,
     alloc: Global,
-    command: &str,
-    front: &str,
+    status: u8,
+    line: &str,
 ) -> Mem<bool> {
-    let (end, out) = run(rt, alloc, &[command, "d"], SCHEMA, "", &[], 3)?;
-    Ok(end.0 == 7 && out.bytes() == front.as_bytes())
+    let ready = make_ready_failing(alloc, TALK, "=", &[1], 1_000)?;
+    let disks = empty(alloc)?;
+    Ok(says(hold(rt, alloc, ready, disks), status, line))
 }
 
 #[test]
-fn a_line_that_fails_has_its_status(rt: HostRuntime) -> Result<(), Fail> {
-    assert_eq!(rt; is_cut_off(&rt, rt.alloc(), "check", "typ"), Ok(true));
-    assert_eq!(rt; is_cut_off(&rt, rt.alloc(), "compact", "sid"), Ok(true));
-    Ok(())
+fn a_schema_is_judged_behind_its_end(rt: HostRuntime) {
+    assert_eq!(rt; says_unread(&rt, rt.alloc(), 4, "wfsd: cannot read\n"), Ok(true));
+}
+
+// Words, and the end and the front of a line that there are where the output has room for three bytes.
+static CUT_OFF: [(&[&str], End, &str); 3] = [
+    (&["check", "d"], (7, None), "typ"),
+    (&["compact", "d"], (7, Some(0)), "sid"),
+    // the status of a refusal stays
+    (&["talk"], (2, None), "wfs"),
+];
+
+fn is_cut_off<R: Threads + Wait + Sync>(
+    rt: &R,
+    alloc: Global,
+    row: &(&[&str], End, &str),
+) -> Mem<bool> {
+    let (end, out) = run(rt, alloc, row.0, SCHEMA, "", &[], 3)?;
+    Ok(end == row.1 && out.bytes() == row.2.as_bytes())
+}
+
+// The first row of `CUT_OFF` of which something else comes.
+fn cut_off_otherwise<R: Threads + Wait + Sync>(rt: &R, alloc: Global) -> Mem<Option<usize>> {
+    for i in 0..CUT_OFF.len() {
+        if !is_cut_off(rt, alloc, &CUT_OFF[i])? {
+            return Ok(Some(i));
+        }
+    }
+    Ok(None)
+}
+
+#[test]
+fn a_line_that_fails_has_its_status(rt: HostRuntime) {
+    assert_eq!(rt; cut_off_otherwise(&rt, rt.alloc()), Ok(None));
 }

@@ -2,7 +2,7 @@
 
 use disk_core::{Disk, MemDisk, Pair};
 use program_samples::{
-    Answer, COLLECTION, FEATURES, Left, Message, REPORT, REPORT_END, REPORT_LOCATOR, REPORT_TEXT,
+    Answer, COLLECTION, End, FEATURES, Left, Message, REPORT, REPORT_END, REPORT_LOCATOR, REPORT_TEXT,
     Ready, SCHEMA, answers_of, disk_with, empty, end_of, hold, make_ready, messages_of, text_of,
 };
 use std::alloc::Global;
@@ -275,18 +275,91 @@ fn a_stop_of_a_compact_loses_nothing(rt: HostRuntime) -> Result<(), Fail> {
     Ok(())
 }
 
-// Whether a first call that fails ends each command with status 5 and its line.
-fn fails<R: Threads + Wait + Sync>(rt: &R, alloc: Global, command: &str) -> Mem<bool> {
-    let ready = ready_for(alloc, &[command, "d"], &[])?;
-    let disks = failing(alloc, &[0], None)?;
-    let (left, out) = hold(rt, alloc, ready, disks);
-    Ok(end_of(&left) == (5, None) && text_of(&out) == "wfsd: store fault\n")
+// ---- statuses
+
+// Words; side a, of which the listed calls fail; from which call on all of side b's fail; and the end and the line that
+// there are then. Side b is empty at first.
+type Ending = (
+    &'static [&'static str],
+    &'static [u8],
+    &'static [u64],
+    Option<u64>,
+    End,
+    &'static str,
+);
+
+// The first opening, and Mark.1 with the label A.
+const INSERTED: &[u8] =
+    b"\x01WFSJNL\x01\0\0\0\0\0\0\0\x01\x01\0\0\0f\x01\0\0\0\0\0\0\0\x01\0\0\0YMark(label:text,size:integer,place:point);Field(name:text,area:polygon);Way(course:line);\x01\0\0\0\x1a\x02\0\0\0\x01\x01\0\0\0\0\0\0\0\0\0\x01\0\x03\x01\0\0\0\x01A\0\0\0";
+
+const FAULT_LINE: &str = "wfsd: store fault\n";
+
+// Call 0 is the first of a start or a look. Behind a start on files that hold something side b's call 2 is the first of a
+// compaction, which reads byte 0 there; behind one on empty files side a's call 14 writes the record of the first step.
+static FAULTS: [Ending; 5] = [
+    (&["talk", "d"], b"", &[0], None, (5, None), FAULT_LINE),
+    (&["check", "d"], b"", &[0], None, (5, None), FAULT_LINE),
+    (&["compact", "d"], b"", &[0], None, (5, None), FAULT_LINE),
+    (
+        &["compact", "d"],
+        INSERTED,
+        &[],
+        Some(2),
+        (5, Some(0)),
+        FAULT_LINE,
+    ),
+    (&["drill", "1", "d"], b"", &[14], None, (5, Some(0)), FAULT_LINE),
+];
+
+// The beginning of a checkpoint of the first opening: the first type has given all its numbers, 1,000,000,000,000.
+const ALL_GIVEN: &[u8] =
+    b"\x01WFSJNL\x01\0\0\0\0\0\0\0\x01\x01\0\0\0\x23\x05\0\0\0\0\0\0\0\x01\0\x03\0\0\0\xe8\xd4\xa5\x10\0\0\0\0\0\0\0\0\0\0\0\0\0\0\0\0\0\0";
+
+// The beginning of a checkpoint of the last opening that may be.
+const LAST: &[u8] =
+    b"\x01WFSJNL\x01\0\0\0\0\0\0\0\x02\x01\0\0\0\x23\x05\0\0\0\xe8\xd4\xa5\x10\0\0\x03\0\0\0\0\0\0\0\0\0\0\0\0\0\0\0\0\0\0\0\0\0\0\0\0\0";
+
+const FULL_LINE: &str = "wfsd: full\n";
+
+static FULL: [Ending; 2] = [
+    (&["drill", "1", "d"], ALL_GIVEN, &[], None, (11, Some(0)), FULL_LINE),
+    (&["talk", "d"], LAST, &[], None, (11, None), FULL_LINE),
+];
+
+fn is_end(held: (Left, MemSink), end: End, line: &str) -> bool {
+    let (left, out) = held;
+    end_of(&left) == end && text_of(&out) == line
+}
+
+fn ends_so<R: Threads + Wait + Sync>(rt: &R, alloc: Global, row: &Ending) -> Mem<bool> {
+    let ready = ready_for(alloc, row.0, &[])?;
+    let a = disk_with(alloc, row.1, row.2, None)?;
+    let b = disk_with(alloc, b"", &[], row.3)?;
+    Ok(is_end(hold(rt, alloc, ready, Pair { a, b }), row.4, row.5))
+}
+
+// The first row of which something else comes.
+fn ends_otherwise<R: Threads + Wait + Sync>(
+    rt: &R,
+    alloc: Global,
+    rows: &[Ending],
+) -> Mem<Option<usize>> {
+    for (i, row) in rows.iter().enumerate() {
+        if !ends_so(rt, alloc, row)? {
+            return Ok(Some(i));
+        }
+    }
+    Ok(None)
 }
 
 #[test]
-fn a_disk_that_fails_has_its_status(rt: HostRuntime) -> Result<(), Fail> {
-    assert_eq!(rt; fails(&rt, rt.alloc(), "talk"), Ok(true));
-    assert_eq!(rt; fails(&rt, rt.alloc(), "check"), Ok(true));
-    assert_eq!(rt; fails(&rt, rt.alloc(), "compact"), Ok(true));
+fn a_disk_that_fails_has_its_status(rt: HostRuntime) {
+    assert_eq!(rt; ends_otherwise(&rt, rt.alloc(), &FAULTS), Ok(None));
+}
+
+#[test]
+fn no_room_has_its_status(rt: HostRuntime) -> Result<(), Fail> {
+    assert_eq!(rt; (INSERTED.len(), ALL_GIVEN.len(), LAST.len()), (155, 57, 57));
+    assert_eq!(rt; ends_otherwise(&rt, rt.alloc(), &FULL), Ok(None));
     Ok(())
 }
