@@ -68,7 +68,7 @@ const SECOND: LockId = LockId {
     number: 2,
 };
 
-static CASES: [Case; 18] = [
+static CASES: [Case; 19] = [
     (
         "all, of which one is held",
         1000,
@@ -122,6 +122,14 @@ static CASES: [Case; 18] = [
         1000,
         Ask::Page(Take::AllOrNone, 0, 2),
         Answer::Refused(20, "Mark.2"),
+        Kept::Nothing,
+        Work::Nothing,
+    ),
+    (
+        "a page of the held one alone",
+        1000,
+        Ask::Page(Take::Free, 1, 1),
+        Answer::Page(3, &[], None),
         Kept::Nothing,
         Work::Nothing,
     ),

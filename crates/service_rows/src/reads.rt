@@ -1,7 +1,7 @@
 //! Reads over three marks, stored queries with parameters, and the list of stored queries. What is expected was worked out by hand.
 use crate::samples::{are_given, texts};
 use feature_values::Schema;
-use fes_filter::{By, Expr, Filter, IdRef, Query};
+use fes_filter::{By, Expr, Filter, IdRef, Query, SortKey};
 use std::alloc::Global;
 use stored_queries::{Stored, answer, expand};
 use views::{SampleView, sample, schema};
@@ -13,6 +13,12 @@ mod views;
 const BY_LABEL: &str = "urn:x:by";
 
 const BY_PLACES: &str = "urn:x:at";
+
+const BY_FOLDED: &str = "urn:x:folded";
+
+const BY_EITHER: &str = "urn:x:either";
+
+const ABOVE: &str = "urn:x:above";
 
 /// The third mark, and then the first.
 const AT_PLACES: &[(&str, &str)] = &[("not", "7"), ("low", "7"), ("high", "9"), ("id", "Mark.1")];
@@ -44,7 +50,7 @@ enum Want {
     Described(&'static [&'static str]),
 }
 
-static ROWS: [(&str, Ask, Want); 36] = [
+static ROWS: [(&str, Ask, Want); 43] = [
     (
         "counted",
         Ask::Marks(true, 1, Some(1)),
@@ -76,6 +82,11 @@ static ROWS: [(&str, Ask, Want); 36] = [
         Want::Features(3, &[2, 3], "", "&startIndex=0&count=1"),
     ),
     (
+        "without a count, behind two",
+        Ask::Marks(false, 2, None),
+        Want::Features(3, &[3], "", "&startIndex=0&count=2"),
+    ),
+    (
         "of no members",
         Ask::Marks(false, 1, Some(0)),
         Want::Features(3, &[], "", ""),
@@ -99,6 +110,16 @@ static ROWS: [(&str, Ask, Want); 36] = [
         "with another parameter",
         Ask::Use(false, BY_LABEL, &[("l", "B"), ("X", "1")]),
         Want::Row(11, "X"),
+    ),
+    (
+        "by a label that is longer than labels may be",
+        Ask::Use(false, BY_LABEL, &[("l", "12345678901")]),
+        Want::Features(0, &[], "", ""),
+    ),
+    (
+        "in another case, where case does not count",
+        Ask::Use(false, BY_FOLDED, &[("p", "b")]),
+        Want::Features(1, &[2], "", ""),
     ),
     (
         "several uses, each feature once",
@@ -142,6 +163,26 @@ static ROWS: [(&str, Ask, Want); 36] = [
             &[("not", "7"), ("low", "7"), ("high", "x")],
         ),
         Want::Row(11, "high"),
+    ),
+    (
+        "the first parameter is missing, and the second is no number",
+        Ask::Use(false, BY_PLACES, &[("low", "x")]),
+        Want::Row(10, "not"),
+    ),
+    (
+        "a parameter to the left, and what is selected in the query's order",
+        Ask::Use(false, ABOVE, &[("p", "6")]),
+        Want::Features(2, &[3, 2], "", ""),
+    ),
+    (
+        "to the left no number",
+        Ask::Use(false, ABOVE, &[("p", "x")]),
+        Want::Row(11, "p"),
+    ),
+    (
+        "no number at the second of two places",
+        Ask::Use(false, BY_EITHER, &[("p", "x")]),
+        Want::Row(11, "p"),
     ),
     (
         "no such query",
@@ -221,7 +262,7 @@ static ROWS: [(&str, Ask, Want); 36] = [
     (
         "all described",
         Ask::Describe(&[]),
-        Want::Described(&[BY_ID, BY_LABEL, BY_PLACES]),
+        Want::Described(&[BY_ID, BY_LABEL, BY_PLACES, BY_FOLDED, BY_EITHER, ABOVE]),
     ),
     (
         "described in the order of all",
@@ -461,6 +502,51 @@ fn by_places(alloc: Global) -> Mem<StoredQuery> {
     definition(alloc, BY_PLACES, &["not", "low", "high", "id"], queries)
 }
 
+/// A label equals the first parameter, whatever the case of their letters is.
+fn folded(alloc: Global) -> Query {
+    let filter = Filter::Compare {
+        by: By::Equal,
+        left: Expr::Property(0),
+        right: Expr::Parameter(0),
+        fold: true,
+    };
+    marks(alloc, Some(filter))
+}
+
+/// A label or a size equals the first parameter.
+fn either(alloc: Global) -> Mem<Query> {
+    let mut parts = Vec::new(alloc);
+    parts.push(equal(0))?;
+    parts.push(equal(1))?;
+    Ok(marks(alloc, Some(Filter::Either(List::of(parts)))))
+}
+
+/// The first parameter is less than a size, and the greatest size comes first.
+fn above(alloc: Global) -> Mem<Query> {
+    let mut sort = Vec::new(alloc);
+    sort.push(SortKey {
+        property: 1,
+        descending: true,
+    })?;
+    Ok(Query {
+        kind: Some(0),
+        filter: Some(Filter::Compare {
+            by: By::Less,
+            left: Expr::Parameter(0),
+            right: Expr::Property(1),
+            fold: false,
+        }),
+        sort: List::of(sort),
+    })
+}
+
+/// A stored query for one query, with the parameter `p`.
+fn of_one(alloc: Global, id: &str, query: Query) -> Mem<StoredQuery> {
+    let mut queries = Vec::new(alloc);
+    queries.push(query)?;
+    definition(alloc, id, &["p"], queries)
+}
+
 fn definitions(alloc: Global, times: u32) -> Mem<List<StoredQuery>> {
     let mut all = Vec::new(alloc);
     for _ in 0..times {
@@ -477,13 +563,21 @@ fn create(stored: &mut Stored, definitions: List<StoredQuery>) -> Mem<Option<Tex
     }
 }
 
-fn stored(alloc: Global) -> Mem<Stored> {
-    let mut stored = Stored::new(alloc);
-    stored.reserve(2)?;
+/// All stored queries but the built-in one.
+fn all_stored(alloc: Global) -> Mem<List<StoredQuery>> {
     let mut all = Vec::new(alloc);
     all.push(by_label(alloc)?)?;
     all.push(by_places(alloc)?)?;
-    create(&mut stored, List::of(all))?;
+    all.push(of_one(alloc, BY_FOLDED, folded(alloc))?)?;
+    all.push(of_one(alloc, BY_EITHER, either(alloc)?)?)?;
+    all.push(of_one(alloc, ABOVE, above(alloc)?)?)?;
+    Ok(List::of(all))
+}
+
+fn stored(alloc: Global) -> Mem<Stored> {
+    let mut stored = Stored::new(alloc);
+    stored.reserve(5)?;
+    create(&mut stored, all_stored(alloc)?)?;
     Ok(stored)
 }
 

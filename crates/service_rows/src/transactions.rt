@@ -41,7 +41,7 @@ type Case = (
     &'static [u64],
 );
 
-static CASES: [Case; 15] = [
+static CASES: [Case; 19] = [
     (
         "a mark that is locked, without a lock",
         None,
@@ -222,6 +222,64 @@ static CASES: [Case; 15] = [
         ],
         (&[3], &[1, 2, 3], &[3], 0),
         &[1, 2, 3, 3],
+    ),
+    (
+        "what a second action touches",
+        Some(LockId {
+            opening: 1,
+            number: 1,
+        }),
+        1000,
+        &[Deed::Update(Some(1), 5), Deed::Delete(Some(2))],
+        Some((19, "Mark.2")),
+        &[],
+        (&[], &[], &[], 0),
+        &[],
+    ),
+    (
+        "a Replace of both behind an Update that is refused",
+        None,
+        1000,
+        &[Deed::Update(Some(1), 5), Deed::Replace(None, 7)],
+        Some((18, "lockId")),
+        &[],
+        (&[], &[], &[], 0),
+        &[],
+    ),
+    (
+        "of a mark that is not there",
+        None,
+        1100,
+        &[
+            Deed::Update(Some(9), 5),
+            Deed::Delete(Some(9)),
+            Deed::Replace(Some(9), 7),
+        ],
+        None,
+        &[],
+        (&[], &[], &[], 0),
+        &[],
+    ),
+    (
+        "a mark is told as often as it is selected",
+        None,
+        1100,
+        &[
+            Deed::Update(Some(1), 5),
+            Deed::Update(None, 6),
+            Deed::Replace(Some(1), 7),
+            Deed::Replace(Some(2), 8),
+        ],
+        None,
+        &[
+            (1, Some(5)),
+            (1, Some(6)),
+            (2, Some(6)),
+            (1, Some(7)),
+            (2, Some(8)),
+        ],
+        (&[], &[1, 1, 2], &[1, 2], 0),
+        &[1, 1, 2, 1, 2],
     ),
 ];
 
@@ -437,4 +495,15 @@ fn first_wrong(alloc: Global) -> Mem<Option<&'static str>> {
 #[test]
 fn transactions_come_to_what_was_worked_out(rt: HostRuntime) {
     assert_eq!(rt; first_wrong(rt.alloc()), Ok(None));
+}
+
+/// Whether there is room for a lock of as many marks as may stand.
+fn has_room(alloc: Global) -> bool {
+    let mut table = LockTable::new(alloc, 1);
+    table.reserve(1_000_000, 0, 1).is_ok()
+}
+
+#[test]
+fn the_largest_lock_has_room(rt: HostRuntime) {
+    assert_eq!(rt; has_room(rt.alloc()), true);
 }

@@ -52,7 +52,7 @@ static BEFORE: [Done; 3] = [
     Done::Makes(&[("urn:q", &["a"])]),
 ];
 
-static JUDGED: [(Done, bool); 30] = [
+static JUDGED: [(Done, bool); 31] = [
     (Done::Opens(2), true),
     (Done::Opens(1), false),
     (Done::Opens(3), false),
@@ -90,6 +90,8 @@ static JUDGED: [(Done, bool); 30] = [
     (Done::Makes(&[("urn:r", &[]), ("urn:r", &[])]), false),
     (Done::Makes(&[("urn:r", &["a", ""])]), false),
     (Done::Makes(&[("urn:r", &["name", "b", "NAME"])]), false),
+    // of names the case of ASCII letters alone does not count
+    (Done::Makes(&[("urn:r", &["é", "É"])]), true),
     (Done::Drops("urn:q"), true),
     (Done::Drops("urn:Q"), false),
     (Done::Drops(BUILT_IN), false),
