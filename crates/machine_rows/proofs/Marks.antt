@@ -7,10 +7,15 @@ use Rattle.fes_filter.specs.declared.filter.Filter.{Filter}
 use Rattle.fes_filter.specs.declared.query.Query.{Query}
 use Rattle.lock_table.specs.declared.id.LockId.{LockId}
 use Rattle.wfs_model.specs.declared.asked.Asked.TheVariants.{Plain}
+use Rattle.wfs_model.specs.declared.change.Change.TheVariants.{Opening}
 use Rattle.wfs_model.specs.declared.request.Request.TheVariants.{Lock, Renew, CreateStored}
 use Rattle.wfs_model.specs.declared.request.Take.{Take}
 use Rattle.wfs_model.specs.declared.stored.StoredQuery.{StoredQuery}
+use Rattle.wfs_model.specs.Kept.{IsKept}
+use Rattle.wfs_model.specs.Played.{played_one}
+use Rattle.wfs_model.specs.State.{State, durable}
 use Rattle.wfs_model.specs.OfSchema.{IsType, IsFilterOf, IsQueryOf, IsStoredOf, IsOfSchema, ids_in, places_in}
+use Rattle.wfs_machine.specs.Kept.{KeepsWell}
 use Rattle.transaction_core.specs.Marks.{AreMarks}
 use Rattle.transaction_core.proofs.Marks.{alone, all_none, kind_is_of}
 
@@ -66,3 +71,9 @@ creation_is_of schema definitions all = record {
   periods = all_none _;
   kept = all_none _;
 }
+
+-- an opening keeps well what outlives the process
+pub opening_keeps : (schema : Schema) (state : State) (opening : ℕ) → IsKept schema (durable state) → KeepsWell schema state (Opening opening)
+unfolding played_one
+opening_keeps schema state opening is =
+    record { order = is.order; fitting = is.fitting; given = is.given; counters = is.counters; stored = is.stored; different = is.different; made = is.made }

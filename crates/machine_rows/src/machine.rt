@@ -10,7 +10,7 @@ use lock_table::{LockId, Release};
 use std::alloc::Global;
 use wfs_ends::Mem;
 use wfs_machine::Plain;
-use wfs_model::{Entry, Made, Refusal, Reply, Take};
+use wfs_model::{Change, Entry, Made, Refusal, Reply, Take};
 
 /// What is answered.
 enum Want {
@@ -38,7 +38,7 @@ const THREE: Ask = Ask::Transact(
 
 const LOCK: Option<(u64, u64)> = Some((1, 1));
 
-static RUNS: [(&str, &[Step]); 17] = [
+static RUNS: [(&str, &[Step]); 21] = [
     (
         "a lock on one, on all, and on those that are free",
         &[
@@ -287,6 +287,60 @@ static RUNS: [(&str, &[Step]); 17] = [
         ],
     ),
     (
+        "a release of a part moves no other deadline",
+        &[
+            (1000, THREE, Want::Told(&[1, 2, 3], &[], &[], 0)),
+            (
+                1000,
+                Ask::Lock(Some(1), Take::AllOrNone, 100),
+                Want::Locked(LOCK, &[1], &[]),
+            ),
+            (
+                1000,
+                Ask::Lock(None, Take::Free, 100),
+                Want::Locked(Some((1, 2)), &[2, 3], &[1]),
+            ),
+            (
+                1050,
+                Ask::Transact(Some((1, 2)), Release::Touched, &[Deed::Update(Some(2), 5)]),
+                Want::Told(&[], &[2], &[], 0),
+            ),
+            (
+                1099,
+                Ask::Transact(None, Release::Whole, &[Deed::Delete(Some(1))]),
+                Want::Row(18, "lockId"),
+            ),
+            (
+                1100,
+                Ask::Lock(Some(1), Take::AllOrNone, 100),
+                Want::Locked(Some((1, 3)), &[1], &[]),
+            ),
+            (1149, Ask::Renew(1, 2), Want::Locked(Some((1, 2)), &[3], &[])),
+        ],
+    ),
+    // A moment counts as 200,000,000,000 at the most.
+    (
+        "a deadline at the last moment of all, and one behind it",
+        &[
+            (1000, TWO, Want::Told(&[1, 2], &[], &[], 0)),
+            (
+                199_999_999_940,
+                Ask::Lock(Some(1), Take::AllOrNone, 60),
+                Want::Locked(LOCK, &[1], &[]),
+            ),
+            (
+                200_000_000_000,
+                Ask::Lock(Some(1), Take::AllOrNone, 1),
+                Want::Locked(Some((1, 2)), &[1], &[]),
+            ),
+            (
+                200_000_000_001,
+                Ask::Transact(None, Release::Whole, &[Deed::Delete(Some(1))]),
+                Want::Row(18, "lockId"),
+            ),
+        ],
+    ),
+    (
         "a refused second action, and a delete with an insert",
         &[
             (1000, TWO, Want::Told(&[1, 2], &[], &[], 0)),
@@ -339,6 +393,46 @@ static RUNS: [(&str, &[Step]); 17] = [
             (1000, Ask::Count, Want::Count(2)),
             (
                 1000,
+                Ask::Lock(Some(1), Take::AllOrNone, 300),
+                Want::Locked(Some((2, 1)), &[1], &[]),
+            ),
+        ],
+    ),
+    (
+        "a new opening begins at any moment",
+        &[
+            (1000, TWO, Want::Told(&[1, 2], &[], &[], 0)),
+            (1000, Ask::Reopen(2), Want::Nothing),
+            (
+                500,
+                Ask::Lock(Some(1), Take::AllOrNone, 60),
+                Want::Locked(Some((2, 1)), &[1], &[]),
+            ),
+            (
+                560,
+                Ask::Transact(None, Release::Whole, &[Deed::Delete(Some(1))]),
+                Want::Told(&[], &[], &[], 1),
+            ),
+        ],
+    ),
+    (
+        "an opening that is played ends the locks",
+        &[
+            (1000, TWO, Want::Told(&[1, 2], &[], &[], 0)),
+            (
+                1000,
+                Ask::Lock(Some(1), Take::AllOrNone, 300),
+                Want::Locked(LOCK, &[1], &[]),
+            ),
+            (1000, Ask::PlayOpening(2), Want::Nothing),
+            (
+                1000,
+                Ask::Transact(LOCK, Release::Whole, &[]),
+                Want::Row(16, "lockId"),
+            ),
+            (1000, Ask::Count, Want::Count(2)),
+            (
+                500,
                 Ask::Lock(Some(1), Take::AllOrNone, 300),
                 Want::Locked(Some((2, 1)), &[1], &[]),
             ),
@@ -540,6 +634,15 @@ fn played(alloc: Global, machine: &mut Plain, schema: &Schema, ask: Ask) -> Mem<
     }
 }
 
+#[tactic(auto, using(crate::proofs::Marks::opening_keeps))]
+fn play_opening(machine: &mut Plain, opening: u64) -> Mem<bool>
+    ensures { machine.new.schema ≡ machine.old.schema }
+{
+    machine.keeps_well();
+    machine.apply(&Change::Opening(opening))?;
+    Ok(true)
+}
+
 fn answered(
     alloc: Global,
     machine: &mut Plain,
@@ -562,6 +665,7 @@ fn answered(
             played(alloc, machine, schema, ask)
         }
         Ask::PlayCreate => played(alloc, machine, schema, Ask::Create),
+        Ask::PlayOpening(opening) => play_opening(machine, opening),
         Ask::Count | Ask::Use(..) => {
             let reply = machine.read(moment, &reading(alloc, ask)?)?;
             Ok(is_answer(&reply, want))

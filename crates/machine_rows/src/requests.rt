@@ -223,6 +223,8 @@ pub enum Ask {
     Play(&'static [Deed]),
     /// No request: the change that `Create` would make is played.
     PlayCreate,
+    /// No request: the change that an opening of this number makes is played.
+    PlayOpening(u64),
 }
 
 fn lock_id(id: Option<(u64, u64)>) -> Option<LockId> {
