@@ -12,8 +12,8 @@ use feature_values::Schema;
 use lock_table::LockId;
 use service_state::{PrepareFault, ServiceState};
 use std::alloc::Global;
-use wfs_ends::Mem;
-use wfs_model::{FullAt, LimitName, Limits, Made, Reply, Request};
+use wfs_ends::{List, Mem};
+use wfs_model::{FullAt, LimitName, Limits, Made, Present, Reply, Request};
 
 /// What a step comes to.
 #[derive(Clone, Copy)]
@@ -48,11 +48,21 @@ const SECOND: LockId = LockId {
     number: 2,
 };
 
+const THIRD: LockId = LockId {
+    opening: 1,
+    number: 3,
+};
+
+const FOURTH: LockId = LockId {
+    opening: 1,
+    number: 4,
+};
+
 /// The limits of the first table.
 const MOST: Most = (3, 4, 1, 1);
 
 /// With at most three marks, four numbers, one live lock and one stored query.
-static STEPS: [Step; 18] = [
+static STEPS: [Step; 21] = [
     ("a first mark", 1000, Ask::Insert, Outcome::Inserted(1)),
     ("a second mark", 1000, Ask::Insert, Outcome::Inserted(2)),
     (
@@ -146,7 +156,29 @@ static STEPS: [Step; 18] = [
         Ask::Create("urn:x:two"),
         Outcome::Full(LimitName::Stored, 1),
     ),
+    (
+        "a lock until the last moment of all, which is 200,000,000,000",
+        199_999_999_940,
+        Ask::Lock(3),
+        Outcome::Locked(THIRD),
+    ),
+    (
+        "another lock, until a later moment",
+        200_000_000_000,
+        Ask::Lock(3),
+        Outcome::Locked(FOURTH),
+    ),
+    (
+        "it lives on, since no later moment comes",
+        200_000_000_060,
+        Ask::Delete(3, None),
+        Outcome::Refused(18),
+    ),
 ];
+
+/// What is told then: two marks, four numbers and two stored queries, the last moment, the opening, and the moments that reads at 1119 and at
+/// 200,000,000,001 print.
+const AT_THE_END: [u64; 7] = [2, 4, 2, 200_000_000_000, 1, 1119, 200_000_000_000];
 
 /// Behind the first three steps, each under limits of its own.
 static LIMITED: [(Most, Step); 6] = [
@@ -324,29 +356,54 @@ fn stored(state: &ServiceState) -> Mem<u64> {
     }
 }
 
-// What is told at the end: marks, numbers, stored queries, the last moment, the opening.
-fn told(state: &ServiceState) -> Mem<[u64; 5]> {
+// A read of no features.
+fn no_features(alloc: Global) -> Request
+    ensures { IsChange result → ⊥ }
+{
+    let present = Present {
+        start: 0,
+        count: None,
+        hits: true,
+        link: None,
+    };
+    Request::GetFeatures(present, List::of(Vec::new(alloc)))
+}
+
+// The moment that a read prints.
+fn printed(alloc: Global, state: &ServiceState, moment: u64) -> Mem<u64> {
+    match state.read(moment, &no_features(alloc))? {
+        Reply::Collection { moment, .. } => Ok(moment),
+        _ => Ok(0),
+    }
+}
+
+// What is told at the end: marks, numbers, stored queries, the last moment, the opening, and the moments of two reads.
+fn told(alloc: Global, state: &ServiceState) -> Mem<[u64; 7]> {
     let features = state.features();
     let queries = stored(state)?;
+    let earlier = printed(alloc, state, 1119)?;
+    let later = printed(alloc, state, 200_000_000_001)?;
     Ok([
         features.count(),
         features.counter(0),
         queries,
         state.last(),
         state.opening(),
+        earlier,
+        later,
     ])
 }
 
-fn first_wrong(alloc: Global) -> Mem<(Option<&'static str>, [u64; 5])> {
+fn first_wrong(alloc: Global) -> Mem<(Option<&'static str>, [u64; 7])> {
     let schema = schema(alloc)?;
     let mut state = first_state(alloc, &schema)?;
     let wrong = first_of(alloc, &schema, &mut state, &STEPS)?;
-    Ok((wrong, told(&state)?))
+    Ok((wrong, told(alloc, &state)?))
 }
 
 #[test]
 fn steps_come_to_what_was_worked_out(rt: HostRuntime) {
-    assert_eq!(rt; first_wrong(rt.alloc()), Ok((None, [2, 4, 2, 1119, 1])));
+    assert_eq!(rt; first_wrong(rt.alloc()), Ok((None, AT_THE_END)));
 }
 
 // A step behind the first three.
