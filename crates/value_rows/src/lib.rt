@@ -1,5 +1,10 @@
-//! Rows of shapes, values and schema files: what is said of them, worked out by hand or by exact fractions.
+//! Rows of shapes, values and schema files: what is said of them, worked out by hand or by exact fractions; and a law of
+//! shapes.
 #![tactic(auto)]
+
+mod laws;
+
+pub use laws::same_areas_are_equal;
 
 #[cfg(test)]
 mod distances;

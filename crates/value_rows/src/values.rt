@@ -116,7 +116,7 @@ fn schema_of(alloc: Global, types: Vec<FeatureType>) -> Mem<Schema> {
 fn mark_properties(alloc: Global) -> Mem<Vec<Property>> {
     let mut all = Vec::new(alloc);
     all.push(property(alloc, "label", ValueKind::Words, true, 3)?)?;
-    all.push(property(alloc, "size", ValueKind::Whole, false, 1)?)?;
+    all.push(property(alloc, "Size", ValueKind::Whole, false, 1)?)?;
     all.push(property(alloc, "place", ValueKind::Point, false, 1)?)?;
     Ok(all)
 }

@@ -80,11 +80,17 @@ fn takes_prefixes_off(rt: HostRuntime) {
     assert_eq!(rt; misread_name(), None);
 }
 
+// Whether a mark's properties are found by their names.
+fn are_properties_found(of_type: &FeatureType) -> bool {
+    of_type.property_named("Size") == Some(1) && of_type.property_named("place") == Some(2)
+}
+
 // Whether a property is found by its name alone, in the case in which it is written (XML names differ by case).
 fn are_properties_named(of_type: &FeatureType) -> bool {
     of_type.property_named("Mark").is_none()
         && of_type.property_named("Place").is_none()
-        && (of_type.properties.items().is_empty() || of_type.property_named("place") == Some(2))
+        && of_type.property_named("size").is_none()
+        && (of_type.properties.items().is_empty() || are_properties_found(of_type))
 }
 
 fn are_names_found(alloc: Global) -> Mem<bool> {
