@@ -68,27 +68,51 @@ fn links_lead_to_other_pages(rt: HostRuntime) {
 const LOCKED: &str =
     "<?xml version=\"1.0\" encoding=\"UTF-8\"?><wfs:FeatureCollection xmlns:wfs=\"http://www.opengis.net/wfs/2.0\" xmlns:gml=\"http://www.opengis.net/gml/3.2\" xmlns:m=\"http://example.org/marks\" timeStamp=\"1970-01-01T00:16:40Z\" numberMatched=\"1\" numberReturned=\"1\" lockId=\"lock-3-14\"><wfs:member><m:Flag gml:id=\"Flag.3\"/></wfs:member></wfs:FeatureCollection>";
 
-fn locked_is_given(alloc: Global) -> Mem<bool> {
+const LOCKED_BETWEEN: &str =
+    "<?xml version=\"1.0\" encoding=\"UTF-8\"?><wfs:FeatureCollection xmlns:wfs=\"http://www.opengis.net/wfs/2.0\" xmlns:gml=\"http://www.opengis.net/gml/3.2\" xmlns:m=\"http://example.org/marks\" timeStamp=\"1970-01-01T00:16:40Z\" numberMatched=\"3\" numberReturned=\"1\" lockId=\"lock-3-14\" next=\"http://h/wfs?startIndex=2\" previous=\"http://h/wfs?startIndex=0\"><wfs:member><m:Flag gml:id=\"Flag.3\"/></wfs:member></wfs:FeatureCollection>";
+
+fn locked_page(
+    alloc: Global,
+    matched: u64,
+    next: Option<Text>,
+    previous: Option<Text>,
+) -> Mem<Reply> {
     let mut features = Vec::new(alloc);
     features.push(flag(alloc, 1, 3, Value::Null, Value::Null)?)?;
     let lock = LockId {
         opening: 3,
         number: 14,
     };
-    let reply = Reply::Collection {
+    Ok(Reply::Collection {
         moment: 1_000,
-        matched: 1,
+        matched,
         features: List::of(features),
         lock: Some(lock),
-        next: None,
-        previous: None,
-    };
+        next,
+        previous,
+    })
+}
+
+fn locked_is_given(alloc: Global) -> Mem<bool> {
+    let reply = locked_page(alloc, 1, None, None)?;
     is_given(alloc, &reply, GML, 345, LOCKED)
+}
+
+fn locked_between_is_given(alloc: Global) -> Mem<bool> {
+    let next = Text::of(alloc, "http://h/wfs?startIndex=2")?;
+    let previous = Text::of(alloc, "http://h/wfs?startIndex=0")?;
+    let reply = locked_page(alloc, 3, Some(next), Some(previous))?;
+    is_given(alloc, &reply, GML, 415, LOCKED_BETWEEN)
 }
 
 #[test]
 fn a_page_names_its_lock(rt: HostRuntime) {
     assert_eq!(rt; locked_is_given(rt.alloc()), Ok(true));
+}
+
+#[test]
+fn a_page_names_its_lock_before_its_links(rt: HostRuntime) {
+    assert_eq!(rt; locked_between_is_given(rt.alloc()), Ok(true));
 }
 
 // Marks and flags, and one of a type that the schema does not have. The last has a value fewer than properties.
@@ -137,10 +161,13 @@ fn features_are_members_with_the_values_that_they_have(rt: HostRuntime) {
 // ---- values
 
 const LABELS: &str =
-    "<?xml version=\"1.0\" encoding=\"UTF-8\"?><wfs:ValueCollection xmlns:wfs=\"http://www.opengis.net/wfs/2.0\" xmlns:gml=\"http://www.opengis.net/gml/3.2\" xmlns:m=\"http://example.org/marks\" timeStamp=\"1970-01-01T00:16:40Z\" numberMatched=\"4\" numberReturned=\"2\" next=\"http://h/wfs?a=b&amp;startIndex=2&amp;count=2\" previous=\"http://h/wfs?a=b&amp;startIndex=0&amp;count=2\"><wfs:member><m:label>B</m:label></wfs:member><wfs:member><m:label/></wfs:member></wfs:ValueCollection>";
+    "<?xml version=\"1.0\" encoding=\"UTF-8\"?><wfs:ValueCollection xmlns:wfs=\"http://www.opengis.net/wfs/2.0\" xmlns:gml=\"http://www.opengis.net/gml/3.2\" xmlns:m=\"http://example.org/marks\" timeStamp=\"1970-01-01T00:16:40Z\" numberMatched=\"4\" numberReturned=\"2\" next=\"http://h/&quot;wfs?a=b&amp;startIndex=2&amp;count=2\" previous=\"http://h/wfs?a=b&amp;startIndex=0&amp;count=2\"><wfs:member><m:label>B</m:label></wfs:member><wfs:member><m:label/></wfs:member></wfs:ValueCollection>";
 
 const PLACES: &str =
     "<?xml version=\"1.0\" encoding=\"UTF-8\"?><wfs:ValueCollection xmlns:wfs=\"http://www.opengis.net/wfs/2.0\" xmlns:gml=\"http://www.opengis.net/gml/3.2\" xmlns:m=\"http://example.org/marks\" timeStamp=\"1970-01-01T00:16:40Z\" numberMatched=\"1\" numberReturned=\"1\"><wfs:member><m:place><gml:Point gml:id=\"Mark.1.place\" srsName=\"urn:ogc:def:crs:EPSG::25832\"><gml:pos>-12 7</gml:pos></gml:Point></m:place></wfs:member></wfs:ValueCollection>";
+
+const MIXED: &str =
+    "<?xml version=\"1.0\" encoding=\"UTF-8\"?><wfs:ValueCollection xmlns:wfs=\"http://www.opengis.net/wfs/2.0\" xmlns:gml=\"http://www.opengis.net/gml/3.2\" xmlns:m=\"http://example.org/marks\" timeStamp=\"1970-01-01T00:16:40Z\" numberMatched=\"4\" numberReturned=\"4\"><wfs:member><m:size>5</m:size></wfs:member><wfs:member><m:lit>false</m:lit></wfs:member></wfs:ValueCollection>";
 
 const NO_VALUES: &str =
     "<?xml version=\"1.0\" encoding=\"UTF-8\"?><wfs:ValueCollection xmlns:wfs=\"http://www.opengis.net/wfs/2.0\" xmlns:gml=\"http://www.opengis.net/gml/3.2\" xmlns:m=\"http://example.org/marks\" timeStamp=\"1970-01-01T00:16:40Z\" numberMatched=\"3\" numberReturned=\"0\"/>";
@@ -166,10 +193,10 @@ fn labels_are_given(alloc: Global) -> Mem<bool> {
     let mut all = Vec::new(alloc);
     all.push(mark(alloc, 2, "B", Value::Null, Value::Null)?)?;
     all.push(mark(alloc, 1, "", Value::Null, Value::Null)?)?;
-    let next = Text::of(alloc, "http://h/wfs?a=b&startIndex=2&count=2")?;
+    let next = Text::of(alloc, "http://h/\"wfs?a=b&startIndex=2&count=2")?;
     let previous = Text::of(alloc, "http://h/wfs?a=b&startIndex=0&count=2")?;
     let reply = values_of(4, 0, List::of(all), Some(next), Some(previous));
-    is_given(alloc, &reply, GML, 462, LABELS)
+    is_given(alloc, &reply, GML, 468, LABELS)
 }
 
 fn places_are_given(alloc: Global) -> Mem<bool> {
@@ -178,6 +205,23 @@ fn places_are_given(alloc: Global) -> Mem<bool> {
     all.push(mark(alloc, 1, "A", Value::Null, place)?)?;
     let reply = values_of(1, 2, List::of(all), None, None);
     is_given(alloc, &reply, GML, 423, PLACES)
+}
+
+// The second values of a mark and of a flag. There is none of a type that the schema does not have, nor of a mark with
+// one value.
+fn mixed_are_given(alloc: Global) -> Mem<bool> {
+    let mut all = Vec::new(alloc);
+    all.push(mark(alloc, 1, "A", Value::Whole(5), Value::Null)?)?;
+    all.push(flag(alloc, 1, 4, Value::Truth(true), Value::Truth(false))?)?;
+    all.push(flag(alloc, 2, 3, Value::Truth(true), Value::Truth(true))?)?;
+    all.push(short(alloc)?)?;
+    let reply = values_of(4, 1, List::of(all), None, None);
+    is_given(alloc, &reply, GML, 360, MIXED)
+}
+
+#[test]
+fn values_are_those_of_each_type(rt: HostRuntime) {
+    assert_eq!(rt; mixed_are_given(rt.alloc()), Ok(true));
 }
 
 #[test]
@@ -206,9 +250,19 @@ fn bare_is_given(alloc: Global) -> Mem<bool> {
     is_given(alloc, &Reply::Bare(feature), GML, 187, BARE)
 }
 
+const BARE_FLAG: &str =
+    "<?xml version=\"1.0\" encoding=\"UTF-8\"?><m:Flag xmlns:gml=\"http://www.opengis.net/gml/3.2\" xmlns:m=\"http://example.org/marks\" gml:id=\"Flag.5\"><m:lit>false</m:lit></m:Flag>";
+
+// A flag whose first value is null and whose second is not.
+fn bare_flag_is_given(alloc: Global) -> Mem<bool> {
+    let feature = flag(alloc, 1, 5, Value::Null, Value::Truth(false))?;
+    is_given(alloc, &Reply::Bare(feature), GML, 169, BARE_FLAG)
+}
+
 #[test]
 fn a_feature_stands_by_itself(rt: HostRuntime) {
     assert_eq!(rt; bare_is_given(rt.alloc()), Ok(true));
+    assert_eq!(rt; bare_flag_is_given(rt.alloc()), Ok(true));
 }
 
 const FLAGS: &str =
@@ -236,29 +290,35 @@ fn the_service_says_what_it_offers(rt: HostRuntime) {
     );
 }
 
-// ---- a namespace with characters that are escaped
+// ---- another prefix, and a namespace with characters that are escaped
 
 const ESCAPED_PAGE: &str =
-    "<?xml version=\"1.0\" encoding=\"UTF-8\"?><wfs:FeatureCollection xmlns:wfs=\"http://www.opengis.net/wfs/2.0\" xmlns:gml=\"http://www.opengis.net/gml/3.2\" xmlns:m=\"urn:x:&quot;a&amp;b\" timeStamp=\"1970-01-01T00:16:40Z\" numberMatched=\"0\" numberReturned=\"0\"/>";
+    "<?xml version=\"1.0\" encoding=\"UTF-8\"?><wfs:FeatureCollection xmlns:wfs=\"http://www.opengis.net/wfs/2.0\" xmlns:gml=\"http://www.opengis.net/gml/3.2\" xmlns:fl=\"urn:x:&quot;a&amp;b\" timeStamp=\"1970-01-01T00:16:40Z\" numberMatched=\"1\" numberReturned=\"1\"><wfs:member><fl:Mark gml:id=\"Mark.1\"><fl:label/></fl:Mark></wfs:member></wfs:FeatureCollection>";
 
 const ESCAPED_BARE: &str =
-    "<?xml version=\"1.0\" encoding=\"UTF-8\"?><m:Mark xmlns:gml=\"http://www.opengis.net/gml/3.2\" xmlns:m=\"urn:x:&quot;a&amp;b\" gml:id=\"Mark.2\"><m:label>B</m:label></m:Mark>";
+    "<?xml version=\"1.0\" encoding=\"UTF-8\"?><fl:Mark xmlns:gml=\"http://www.opengis.net/gml/3.2\" xmlns:fl=\"urn:x:&quot;a&amp;b\" gml:id=\"Mark.2\"><fl:label>B</fl:label></fl:Mark>";
 
 const ESCAPED_LIST: &str =
-    "<?xml version=\"1.0\" encoding=\"UTF-8\"?><wfs:ListStoredQueriesResponse xmlns:wfs=\"http://www.opengis.net/wfs/2.0\" xmlns:m=\"urn:x:&quot;a&amp;b\"/>";
+    "<?xml version=\"1.0\" encoding=\"UTF-8\"?><wfs:ListStoredQueriesResponse xmlns:wfs=\"http://www.opengis.net/wfs/2.0\" xmlns:fl=\"urn:x:&quot;a&amp;b\"/>";
+
+fn escaped_page_is_given(alloc: Global) -> Mem<bool> {
+    let mut all = Vec::new(alloc);
+    all.push(mark(alloc, 1, "", Value::Null, Value::Null)?)?;
+    let reply = page(1_000, 1, List::of(all), None, None);
+    is_escaped(alloc, &reply, GML, 343, ESCAPED_PAGE)
+}
 
 fn escaped_is_given(alloc: Global) -> Mem<bool> {
-    let none = page(1_000, 0, List::of(Vec::new(alloc)), None, None);
     let feature = mark(alloc, 2, "B", Value::Null, Value::Null)?;
     let stored = Reply::StoredList(List::of(Vec::new(alloc)));
     Ok(
-        is_escaped(alloc, &none, GML, 248, ESCAPED_PAGE)?
-            && is_escaped(alloc, &Reply::Bare(feature), GML, 164, ESCAPED_BARE)?
-            && is_escaped(alloc, &stored, XML, 143, ESCAPED_LIST)?,
+        is_escaped(alloc, &Reply::Bare(feature), GML, 169, ESCAPED_BARE)?
+            && is_escaped(alloc, &stored, XML, 144, ESCAPED_LIST)?,
     )
 }
 
 #[test]
-fn a_namespace_is_escaped(rt: HostRuntime) {
+fn a_namespace_is_escaped_behind_its_prefix(rt: HostRuntime) {
+    assert_eq!(rt; escaped_page_is_given(rt.alloc()), Ok(true));
     assert_eq!(rt; escaped_is_given(rt.alloc()), Ok(true));
 }

@@ -121,7 +121,7 @@ pub(crate) fn is_given_last(
     is_put(alloc, reply, true, media, size, body)
 }
 
-// Whether a reply is given so where the namespace is one with characters that are escaped.
+// Whether a reply is given so where the prefix is another and the namespace one with characters that are escaped.
 pub(crate) fn is_escaped(
     alloc: Global,
     reply: &Reply,
@@ -129,7 +129,8 @@ pub(crate) fn is_escaped(
     size: u64,
     body: &str,
 ) -> Mem<bool> {
-    let schema = marks_in(alloc, "urn:x:\"a&b")?;
+    let mut schema = marks_in(alloc, "urn:x:\"a&b")?;
+    schema.prefix = Text::of(alloc, "fl")?;
     let text = expected(alloc, media, size, false, body)?;
     let answer = given(alloc, reply, &schema, false)?;
     Ok(answer.bytes() == text.as_bytes())

@@ -99,8 +99,10 @@ fn ids(alloc: Global, kind: u32, numbers: &[u64]) -> Mem<List<Rid>> {
     Ok(List::of(all))
 }
 
+// Whether the answer is given that names this lock and the features of this type with these numbers.
 fn is_locked(
     alloc: Global,
+    kind: u32,
     lock: Option<LockId>,
     taken: &[u64],
     missed: &[u64],
@@ -109,8 +111,8 @@ fn is_locked(
 ) -> Mem<bool> {
     let reply = Reply::Locked {
         lock,
-        taken: ids(alloc, 0, taken)?,
-        missed: ids(alloc, 0, missed)?,
+        taken: ids(alloc, kind, taken)?,
+        missed: ids(alloc, kind, missed)?,
     };
     is_given(alloc, &reply, XML, size, body)
 }
@@ -128,6 +130,9 @@ const ALONE: &str =
 const MISSED: &str =
     "<?xml version=\"1.0\" encoding=\"UTF-8\"?><wfs:LockFeatureResponse xmlns:wfs=\"http://www.opengis.net/wfs/2.0\" xmlns:fes=\"http://www.opengis.net/fes/2.0\"><wfs:FeaturesNotLocked><fes:ResourceId rid=\"Mark.2\"/></wfs:FeaturesNotLocked></wfs:LockFeatureResponse>";
 
+const MISSED_FLAG: &str =
+    "<?xml version=\"1.0\" encoding=\"UTF-8\"?><wfs:LockFeatureResponse xmlns:wfs=\"http://www.opengis.net/wfs/2.0\" xmlns:fes=\"http://www.opengis.net/fes/2.0\"><wfs:FeaturesNotLocked><fes:ResourceId rid=\"Flag.2\"/></wfs:FeaturesNotLocked></wfs:LockFeatureResponse>";
+
 #[test]
 fn a_lock_names_what_it_took_and_what_not(rt: HostRuntime) {
     let second = LockId {
@@ -135,7 +140,7 @@ fn a_lock_names_what_it_took_and_what_not(rt: HostRuntime) {
         number: 2,
     };
     assert_eq!(rt;
-        is_locked(rt.alloc(), Some(second), &[1, 3], &[2], 371, SOME_LOCKED),
+        is_locked(rt.alloc(), 0, Some(second), &[1, 3], &[2], 371, SOME_LOCKED),
         Ok(true)
     );
 }
@@ -143,11 +148,15 @@ fn a_lock_names_what_it_took_and_what_not(rt: HostRuntime) {
 #[test]
 fn nothing_was_locked(rt: HostRuntime) {
     assert_eq!(rt;
-        is_locked(rt.alloc(), None, &[], &[], 150, NONE_LOCKED),
+        is_locked(rt.alloc(), 0, None, &[], &[], 150, NONE_LOCKED),
         Ok(true)
     );
     assert_eq!(rt;
-        is_locked(rt.alloc(), None, &[], &[2], 252, MISSED),
+        is_locked(rt.alloc(), 0, None, &[], &[2], 252, MISSED),
+        Ok(true)
+    );
+    assert_eq!(rt;
+        is_locked(rt.alloc(), 1, None, &[], &[2], 252, MISSED_FLAG),
         Ok(true)
     );
 }
@@ -159,7 +168,7 @@ fn the_greatest_lock_is_named(rt: HostRuntime) {
         number: u64::MAX,
     };
     assert_eq!(rt;
-        is_locked(rt.alloc(), Some(last), &[], &[], 206, ALONE),
+        is_locked(rt.alloc(), 0, Some(last), &[], &[], 206, ALONE),
         Ok(true)
     );
 }
