@@ -5,7 +5,7 @@ use wfs_ends::{Mem, OutOfMemory};
 use wfs_words::{Command, WordFault, directory, read_words};
 
 /// Words, what they ask for, and of which directory.
-static ROWS: [(&[&str], &str, &str); 69] = [
+static ROWS: [(&[&str], &str, &str); 70] = [
     (
         &["serve", "--workers=2", "DIR", "--listen", "127.0.0.1:0"],
         "serve 127.0.0.1:0 2",
@@ -160,6 +160,19 @@ static ROWS: [(&[&str], &str, &str); 69] = [
             "2",
             "--connections",
             "1000001",
+            "d",
+        ],
+        "refused",
+        "",
+    ),
+    (
+        &[
+            "serve",
+            "--listen",
+            "a",
+            "--workers",
+            "2",
+            "--connections=",
             "d",
         ],
         "refused",
