@@ -57,14 +57,21 @@ pub fn type_of(alloc: Global, name: &str, properties: &[Named], max: u32) -> Mem
     })
 }
 
-/// A schema of these types, in two names of one reference system.
+// Names of one reference system, of which the last has a comma in it.
+static SRS: [&str; 3] = [
+    "urn:ogc:def:crs:EPSG::25832",
+    "EPSG:25832",
+    "urn:ogc:def:crs,crs:EPSG::25832",
+];
+
+/// A schema of these types, in three names of one reference system.
 pub fn schema_of(alloc: Global, types: List<FeatureType>) -> Mem<Schema> {
     Ok(Schema {
         title: Text::of(alloc, "Marks")?,
         address: Text::of(alloc, "http://localhost:8080/wfs")?,
         space: Text::of(alloc, "http://example.org/marks")?,
         prefix: Text::of(alloc, "m")?,
-        srs: words(alloc, &["urn:ogc:def:crs:EPSG::25832", "EPSG:25832"])?,
+        srs: words(alloc, &SRS)?,
         types,
     })
 }

@@ -138,7 +138,7 @@ fn names_values_and_patterns_are_read(rt: HostRuntime) {
     assert_eq!(rt; first_misread(rt.alloc(), None, &MORE), None);
 }
 
-static STORED: [(&str, &str); 9] = [
+static STORED: [(&str, &str); 10] = [
     (
         "PropertyIsEqualTo(|Literal=${text}|ValueReference=size|)",
         "Compare { by: Equal, left: Parameter(1), right: Property(1), fold: false }",
@@ -166,6 +166,10 @@ static STORED: [(&str, &str); 9] = [
         "Like { property: 0, pattern: List { items: [Exactly('$')] } }",
     ),
     ("ResourceId(|@rid=${id|)", "Ids(List { items: [Nobody] })"),
+    (
+        "PropertyIsEqualTo(|ValueReference=label|Literal=${id}x|)",
+        "Compare { by: Equal, left: Property(0), right: Literal(Words(\"${id}x\")), fold: false }",
+    ),
 ];
 
 #[test]
@@ -175,29 +179,57 @@ fn parameters_of_stored_texts_are_read(rt: HostRuntime) -> Result<(), Fail> {
     Ok(())
 }
 
-// So many nulls within an Or.
-fn nulls(alloc: Global, count: u32) -> Mem<String> {
+// A word so many times between two others.
+fn repeated(alloc: Global, before: &str, word: &str, count: u32, behind: &str) -> Mem<String> {
     let mut words = String::new(alloc);
-    words.push_str("Or(|")?;
+    words.push_str(before)?;
     for _ in 0..count {
-        words.push_str("PropertyIsNull(|ValueReference=size|)|")?;
+        words.push_str(word)?;
     }
-    words.push_str(")")?;
+    words.push_str(behind)?;
     Ok(words)
 }
 
-fn is_read_as_either(alloc: Global, words: &str) -> bool {
+// So many nulls within an Or, and what stands behind them there.
+fn nulls(alloc: Global, count: u32, behind: &str) -> Mem<String> {
+    repeated(
+        alloc,
+        "Or(|",
+        "PropertyIsNull(|ValueReference=size|)|",
+        count,
+        behind,
+    )
+}
+
+// Whether a filter is read, and is told by these words at its front.
+fn is_read_as(alloc: Global, words: &str, front: &str) -> bool {
     match told(alloc, words, None) {
-        Ok(found) => found.as_str().starts_with("Either"),
+        Ok(found) => found.as_str().starts_with(front),
         Err(_) => false,
     }
 }
 
 #[test]
 fn a_thousand_operators_are_read_and_no_more(rt: HostRuntime) -> Result<(), Fail> {
-    let most = nulls(rt.alloc(), 999)?;
-    assert!(rt; is_read_as_either(rt.alloc(), most.as_str()));
-    let too_many = nulls(rt.alloc(), 1_000)?;
+    let most = nulls(rt.alloc(), 999, ")")?;
+    assert!(rt; is_read_as(rt.alloc(), most.as_str(), "Either"));
+    let too_many = nulls(rt.alloc(), 1_000, ")")?;
     assert!(rt; is_told(rt.alloc(), too_many.as_str(), None, "12 Filter"));
+    Ok(())
+}
+
+// An operator is counted before what it holds is judged.
+#[test]
+fn one_operator_too_many_is_told_before_its_property(rt: HostRuntime) -> Result<(), Fail> {
+    let words = nulls(rt.alloc(), 999, "PropertyIsNull(|ValueReference=none|)|)")?;
+    assert!(rt; is_told(rt.alloc(), words.as_str(), None, "12 Filter"));
+    Ok(())
+}
+
+// Identifiers that stand alone are one operator, however many they are.
+#[test]
+fn more_than_a_thousand_ids_are_read(rt: HostRuntime) -> Result<(), Fail> {
+    let words = repeated(rt.alloc(), "", "ResourceId(|@rid=Mark.1|)|", 1_001, "")?;
+    assert!(rt; is_read_as(rt.alloc(), words.as_str(), "Ids"));
     Ok(())
 }

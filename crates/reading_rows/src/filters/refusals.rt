@@ -3,7 +3,7 @@
 use super::*;
 use std::test::Fail;
 
-static MISPLACED: [(&str, &str); 35] = [
+static MISPLACED: [(&str, &str); 41] = [
     ("", "8 Filter"),
     (
         "PropertyIsNull(|ValueReference=size|)|PropertyIsNull(|ValueReference=size|)",
@@ -111,6 +111,21 @@ static MISPLACED: [(&str, &str); 35] = [
         "BBOX(|gml:Envelope(|gml:lowerCorner=0 1|gml:upperCorner=2 3|)|Literal=1|)",
         "8 Literal",
     ),
+    (
+        "PropertyIsLike(|@wildCard=*|@singleChar=.|@escapeChar=!|ValueReference=label|Function=a|)",
+        "8 Function",
+    ),
+    (
+        "PropertyIsLike(|@wildCard=*|@singleChar=.|@escapeChar=!|ValueReference=label|)",
+        "8 PropertyIsLike",
+    ),
+    (
+        "PropertyIsBetween(|Literal=size|LowerBoundary(|Literal=1|)|UpperBoundary(|Literal=2|)|)",
+        "8 Literal",
+    ),
+    ("PropertyIsEqualTo(|Function=A|ValueReference=label|)", "8 Function"),
+    ("PropertyIsBetween(|ValueReference=size|LowerBoundary(|Literal=1|)|)", "8 PropertyIsBetween"),
+    ("Intersects(|ValueReference=place|)", "8 Intersects"),
 ];
 
 #[test]
@@ -118,7 +133,7 @@ fn misplaced_and_missing_elements_are_named(rt: HostRuntime) {
     assert_eq!(rt; first_misread(rt.alloc(), None, &MISPLACED), None);
 }
 
-static REFUSED: [(&str, &str); 46] = [
+static REFUSED: [(&str, &str); 52] = [
     ("PropertyIsNil(|ValueReference=size|)", "12 PropertyIsNil"),
     ("Function", "12 Function"),
     ("x:And", "12 And"),
@@ -258,6 +273,18 @@ static REFUSED: [(&str, &str); 46] = [
         "PropertyIsBetween(|ValueReference=size|LowerBoundary(|@a=1|Literal=1|)|UpperBoundary(|Literal=2|)|)",
         "12 a",
     ),
+    ("PropertyIsEqualTo(|@a=1|ValueReference=label|Literal=A|)", "12 a"),
+    (
+        "PropertyIsLike(|@wildCard=*|@singleChar=.|@escapeChar=!|ValueReference=label|Literal(|@a=1|=a|)|)",
+        "12 a",
+    ),
+    (
+        "Not(|PropertyIsNull(|ValueReference=none|)|PropertyIsNull(|ValueReference=size|)|)",
+        "11 none",
+    ),
+    ("PropertyIsNull(|ValueReference=none|)|PropertyIsNull(|ValueReference=size|)", "11 none"),
+    ("PropertyIsNull(|ValueReference=none|Literal=1|)", "11 none"),
+    ("PropertyIsEqualTo(|ValueReference=size|Literal=x|Literal=1|)", "11 size"),
 ];
 
 #[test]

@@ -6,7 +6,7 @@ use super::*;
 const REQUEST: &str = "service=WFS&request=";
 
 // What is asked.
-static ASKED: [(&str, &str); 29] = [
+static ASKED: [(&str, &str); 31] = [
     ("GetCapabilities", "capabilities"),
     ("GetCapabilities&version=9", "capabilities"),
     ("GetCapabilities&acceptVersions=1.1.0,2.0.0", "capabilities"),
@@ -87,10 +87,15 @@ static ASKED: [(&str, &str); 29] = [
         "described a b a",
     ),
     ("DropStoredQuery&storedQuery_id=urn:q,r", "drop urn:q,r"),
+    (
+        "GetPropertyValue&storedQuery_id=q&valueReference=label&count=2&startIndex=1&resultType=hits",
+        "stored q =label values 0 from 1 count 2 hits",
+    ),
+    ("GetFeatureWithLock&storedQuery_id=q&count=2&startIndex=1", "stored q from 1 count 2 for 300"),
 ];
 
 // What is refused.
-static REFUSED: [(&str, &str); 47] = [
+static REFUSED: [(&str, &str); 48] = [
     ("GetCapabilities&acceptVersions=1.1.0", "13 acceptVersions"),
     (
         "GetCapabilities&acceptVersions=2.0,1.0.0",
@@ -189,6 +194,7 @@ static REFUSED: [(&str, &str); 47] = [
         "LockFeature&typeNames=Nope&expiry=0&lockAction=x",
         "11 expiry",
     ),
+    ("LockFeature&typeNames=Nope&lockAction=x", "11 lockAction"),
 ];
 
 #[test]

@@ -3,7 +3,7 @@
 use super::*;
 
 // What features are chosen by and sorted by, behind `service=WFS&request=GetFeature&`.
-static CHOSEN: [(&str, &str); 24] = [
+static CHOSEN: [(&str, &str); 25] = [
     (
         "typeNames=Mark&bbox=1,2,3,4",
         "type 0 box all 1 2 3 4 from 0 count all",
@@ -99,6 +99,10 @@ static CHOSEN: [(&str, &str); 24] = [
     (
         "typeNames=Field&resourceId=Field.1,Field.2&sortBy=name%20DESC",
         "type 1 ids 1.1 1.2 by 0- from 0 count all",
+    ),
+    (
+        "typeNames=Mark&bbox=1,2,3,4,urn:ogc:def:crs,crs:EPSG::25832",
+        "type 0 box all 1 2 3 4 from 0 count all",
     ),
 ];
 

@@ -3,7 +3,7 @@
 
 use super::*;
 
-static QUERIES: [(&str, &str); 31] = [
+static QUERIES: [(&str, &str); 32] = [
     ("<Mark/>", "8 Mark"),
     ("<m:Query typeNames='Mark'/>", "8 Query"),
     ("<Query/>", "10 typeNames"),
@@ -80,6 +80,10 @@ static QUERIES: [(&str, &str); 31] = [
         "=\"m:Mark\"/>",
     ),
     ("<Query typeNames='Mark'><f:SortBy a='1'/></Query>", "12 a"),
+    (
+        "<Query typeNames='Mark'><SortBy><f:SortProperty><f:ValueReference>size</f:ValueReference></f:SortProperty></SortBy></Query>",
+        "8 SortBy",
+    ),
 ];
 
 #[test]
@@ -87,7 +91,7 @@ fn queries_are_refused_by_row_and_name(rt: HostRuntime) {
     assert_eq!(rt; first_misread(rt.alloc(), false, &QUERIES), Ok(None));
 }
 
-static SORTED: [(&str, &str); 21] = [
+static SORTED: [(&str, &str); 23] = [
     ("", "8 SortBy"),
     (
         "<f:ValueReference>size</f:ValueReference>",
@@ -159,6 +163,11 @@ static SORTED: [(&str, &str); 21] = [
     (
         "<f:SortProperty><f:ValueReference>size</f:ValueReference></f:SortProperty></f:SortBy><f:SortBy><f:SortProperty><f:ValueReference>size</f:ValueReference></f:SortProperty>",
         "8 SortBy",
+    ),
+    ("<f:SortProperty><ValueReference>size</ValueReference></f:SortProperty>", "8 ValueReference"),
+    (
+        "<f:SortProperty><f:ValueReference>size</f:ValueReference><SortOrder>DESC</SortOrder></f:SortProperty>",
+        "8 SortOrder",
     ),
 ];
 

@@ -62,7 +62,7 @@ fn transactions_are_judged_in_order(rt: HostRuntime) {
     assert_eq!(rt; first_misread(rt.alloc(), "", "", &ROOTS), Ok(None));
 }
 
-static UPDATES: [(&str, &str); 40] = [
+static UPDATES: [(&str, &str); 41] = [
     ("<Update/>", "10 typeName"),
     ("<Update handle='h' inputFormat='x'/>", "10 typeName"),
     (
@@ -199,6 +199,10 @@ static UPDATES: [(&str, &str); 40] = [
         "<Update srsName='EPSG:25832' inputFormat='text/xml; subtype=gml/3.2.1' typeName='Mark'><Property><ValueReference>size</ValueReference></Property></Update>",
         "transact - whole update-all - 0 1 null",
     ),
+    (
+        "<Update typeName='Mark'><Property><ValueReference>size</ValueReference><m:Value>5</m:Value></Property></Update>",
+        "8 Value",
+    ),
 ];
 
 #[test]
@@ -212,7 +216,7 @@ fn updates_are_judged_in_order(rt: HostRuntime) {
     assert_eq!(rt; found, Ok(None));
 }
 
-static OTHERS: [(&str, &str); 26] = [
+static OTHERS: [(&str, &str); 27] = [
     ("<Insert/>", "8 Insert"),
     ("<Insert>text</Insert>", "8 Insert"),
     ("<Insert srsName='x' inputFormat='y'/>", "11 inputFormat"),
@@ -277,6 +281,10 @@ static OTHERS: [(&str, &str); 26] = [
     (
         "<Delete typeName='Mark'><Filter><f:ResourceId rid='Mark.1'/></Filter></Delete>",
         "8 Filter",
+    ),
+    (
+        "<Delete typeName='Way'><f:Filter><f:PropertyIsNull><f:ValueReference>course</f:ValueReference></f:PropertyIsNull></f:Filter></Delete>",
+        "transact - whole delete 2",
     ),
 ];
 

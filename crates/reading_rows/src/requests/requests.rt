@@ -2,7 +2,7 @@
 
 use super::*;
 
-static REFUSED: [(&str, &str); 64] = [
+static REFUSED: [(&str, &str); 67] = [
     ("<Foo/>", "9 Foo"),
     ("<m:Transaction service='WFS'/>", "9 Transaction"),
     ("<getFeature service='WFS'/>", "9 getFeature"),
@@ -214,6 +214,15 @@ static REFUSED: [(&str, &str); 64] = [
         "<GetCapabilities service='WFS' version='1.1.0'/>",
         "11 version",
     ),
+    (
+        "<GetCapabilities service='WFS'><o:AcceptVersions><Version>2.0.0</Version></o:AcceptVersions></GetCapabilities>",
+        "8 Version",
+    ),
+    (
+        "<DescribeStoredQueries service='WFS'><StoredQueryId a='1'>q</StoredQueryId></DescribeStoredQueries>",
+        "12 a",
+    ),
+    ("<ListStoredQueries service='WFS' Handle='h'/>", "12 Handle"),
 ];
 
 #[test]
