@@ -68,6 +68,8 @@ fn the_first_other_attribute_is_told(rt: HostRuntime) -> Result<(), Fail> {
     assert!(rt; first == Some("Note"), "of four");
     let first = first_other(&["version", "Note"], &all).map(|text| text.as_str());
     assert!(rt; first == Some("mark"), "of three");
+    let first = first_other(&["version", "note", "mark", "zone"], &all).map(|text| text.as_str());
+    assert!(rt; first == Some("Note"), "in another case");
     let first = first_other(&["version", "Note", "mark", "note", "zone"], &all);
     assert!(rt; first.is_none(), "none");
     let two = attributes(alloc, &SHORT)?;

@@ -89,7 +89,7 @@ fn is_read_as(alloc: Global, bytes: &[u8], wanted: &str) -> bool {
 }
 
 /// Documents, and the tree or the fault that the rules give.
-static DOCUMENTS: [(&str, &str); 178] = [
+static DOCUMENTS: [(&str, &str); 180] = [
     // The byte order mark and the declaration.
     ("\u{feff}<a/>", "a"),
     ("\u{feff}<?xml version='1.0'?><a/>", "a"),
@@ -232,6 +232,8 @@ static DOCUMENTS: [(&str, &str); 178] = [
     ("<a>&#x;</a>", "Malformed"),
     ("<a>&#X41;</a>", "Malformed"),
     ("<a>&#4A;</a>", "Malformed"),
+    ("<a>&#x4g;</a>", "Malformed"),
+    ("<a>&#x4G;</a>", "Malformed"),
     ("<a>&lt</a>", "Malformed"),
     ("<a>&LT;</a>", "Malformed"),
     ("<a>&nbsp;</a>", "Malformed"),
@@ -416,6 +418,19 @@ fn counts_elements(rt: HostRuntime) {
             "{after}"
         );
     }
+}
+
+/// A line of letters, and what is behind the last line: 57 letters and the end tag.
+const LINE: &str = "xxxxxxxxxxxxxxxxxxxxxxxxxxxxxxxxxxxxxxxxxxxxxxxxxxxxxxxxxxxxxxxx";
+
+const LAST: &str = "xxxxxxxxxxxxxxxxxxxxxxxxxxxxxxxxxxxxxxxxxxxxxxxxxxxxxxxxx</a>";
+
+/// 4,194,304 bytes: 3 of the start tag, 64 of each line, and 61 at the end.
+#[test]
+fn reads_the_longest_document(rt: HostRuntime) {
+    let alloc = rt.alloc();
+    let longest = repeated(alloc, "<a>", LINE, 65_535, LAST);
+    assert!(rt; is_told(alloc, longest, "read"));
 }
 
 /// A tag with so many attributes, and as many declarations.

@@ -552,3 +552,35 @@ fn a_line_has_up_to_ten_thousand_positions(rt: HostRuntime) {
         Err(GmlFault::Number)
     );
 }
+
+// An element of a front, and of one part so many times.
+fn fault_of_parts(
+    alloc: Global,
+    local: &str,
+    front: &str,
+    part: &str,
+    count: u32,
+) -> Result<(), GmlFault> {
+    let mut holds = String::from_str(alloc, front)?;
+    for _ in 0..count {
+        holds.push_str(part)?;
+    }
+    read_geometry(alloc, &tree(alloc, local, "", holds.as_str())?, &known(alloc)?)?;
+    Ok(())
+}
+
+const SHELL: &str = "exterior/LinearRing/posList=0 0 9 0 9 9 0 0";
+
+const HOLE: &str = ";interior/LinearRing/posList=5 2 6 2 6 3 5 2";
+
+// The position of the front is one; a ring has four, also that of the front.
+#[test]
+fn positions_are_counted_over_all_parts(rt: HostRuntime) {
+    let alloc = rt.alloc();
+    let too_many = Err(GmlFault::Shape(GeomFault::TooMany));
+    let line = "LineString";
+    assert_eq!(rt; fault_of_parts(alloc, line, "pos=1 2", "|1 2", 9_999), Ok(()));
+    assert_eq!(rt; fault_of_parts(alloc, line, "pos=1 2", "|1 2", 10_000), too_many);
+    assert_eq!(rt; fault_of_parts(alloc, "Polygon", SHELL, HOLE, 2_499), Ok(()));
+    assert_eq!(rt; fault_of_parts(alloc, "Polygon", SHELL, HOLE, 2_500), too_many);
+}
