@@ -102,7 +102,7 @@ static ENDED_LOCKS: [Row; 4] = [
     ),
 ];
 
-static READS: [Row; 4] = [
+static READS: [Row; 5] = [
     (
         "GET /wfs?service=WFS&request=GetFeature&typeNames=Mark&count=1 HTTP/1.1\r\nHost: h\r\n\r\n",
         "200 OK",
@@ -117,6 +117,12 @@ static READS: [Row; 4] = [
     ),
     (
         "GET /wfs?service=WFS&request=GetFeature&storedQuery_id=urn:ogc:def:query:OGC-WFS::GetFeatureById&id=Mark.2 HTTP/1.1\r\nHost: h\r\n\r\n",
+        "200 OK",
+        "application/gml+xml; version=3.2",
+        "<?xml version=\"1.0\" encoding=\"UTF-8\"?><m:Mark xmlns:gml=\"http://www.opengis.net/gml/3.2\" xmlns:m=\"http://example.org/marks\" gml:id=\"Mark.2\"><m:label>C</m:label><m:size>5</m:size></m:Mark>",
+    ),
+    (
+        "GET /wfs?service=WFS&request=GetFeature&storedQuery_id=urn:ogc:def:query:OGC-WFS::GetFeatureById&id=Mark.2&startIndex=1&count=0 HTTP/1.1\r\nHost: h\r\n\r\n",
         "200 OK",
         "application/gml+xml; version=3.2",
         "<?xml version=\"1.0\" encoding=\"UTF-8\"?><m:Mark xmlns:gml=\"http://www.opengis.net/gml/3.2\" xmlns:m=\"http://example.org/marks\" gml:id=\"Mark.2\"><m:label>C</m:label><m:size>5</m:size></m:Mark>",
@@ -208,9 +214,9 @@ static SERVICE: [Row; 4] = [
 ];
 
 // The moments at which the messages come, in seconds.
-static MOMENTS: [u64; 30] = [
+static MOMENTS: [u64; 31] = [
     1000, 1000, 1000, 1010, 1050, 1060, 1060, 1060, 1109, 1208, 1209, 1210, 1211, 1211, 1212, 1212,
-    1212, 1212, 1213, 1213, 1213, 1213, 1213, 1213, 1213, 1213, 1214, 1214, 1215, 1216,
+    1212, 1212, 1212, 1213, 1213, 1213, 1213, 1213, 1213, 1213, 1213, 1214, 1214, 1215, 1216,
 ];
 
 fn add_inputs(text: &mut String, rows: &[Row]) -> Mem<()> {
@@ -245,7 +251,8 @@ fn add_all_outputs(text: &mut String) -> Mem<()> {
     add_outputs(text, &SERVICE)
 }
 
-// Whether a session over this input, each message at its moment, comes to this output.
+// Whether a session over this input, each message at its moment, comes to this output. Of the messages 20 are entries:
+// those that ask for a change, also where they are refused.
 fn comes_to<R: Threads + Wait + Sync>(
     rt: &R,
     alloc: Global,
@@ -256,7 +263,7 @@ fn comes_to<R: Threads + Wait + Sync>(
     let words = &["talk", "d"];
     let ready = make_ready_at(alloc, clock, words, SCHEMA, input, &[], 40_000)?;
     let (end, out) = go_empty(rt, alloc, ready)?;
-    Ok(end.0 == 0 && out.bytes() == output.as_bytes())
+    Ok(end == (0, Some(20)) && out.bytes() == output.as_bytes())
 }
 
 // Whether a session over all messages comes to all answers.

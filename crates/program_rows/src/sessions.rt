@@ -1,15 +1,21 @@
 //! What sessions answer, and how they end.
 
+use asked::{
+    COUNTED, COUNTING, DESCRIBED, DESCRIBING, FOR_TWO_TYPES, LABELLED, LABELS, LOCKED_PAGES,
+    OF_TWO_TYPES, PAGES_WITH_LOCKS, SET, SETTING,
+};
 use disk_core::{Disk, Pair};
 use program_samples::{
     Answer, COLLECTION, End, FEATURES, INSERTED, LOCKED, Left, Message, REPORT, REPORT_END,
-    REPORT_LOCATOR, REPORT_TEXT, SCHEMA, TWO_MARKS, answers_of, disk_with, end_of, hold, length_of,
-    make_ready, messages_of, refusal, run,
+    REPORT_LOCATOR, REPORT_TEXT, SCHEMA, TWO_MARKS, answers_of, disk_with, end_of, go_empty, hold,
+    length_of, make_ready, make_ready_at, messages_of, refusal, run,
 };
 use std::alloc::Global;
 use std::sync::Wait;
 use std::thread::Threads;
-use wfs_ends::{Mem, MemSink};
+use wfs_ends::{ListClock, Mem, MemSink};
+
+mod asked;
 
 // Whether a session over an input whose listed takes fail, with an output of so many bytes, comes to an end and to an output.
 fn comes_to<R: Threads + Wait + Sync>(
@@ -314,6 +320,74 @@ static LOCKED_AND_REFUSED: [Answer; 3] = [
 fn a_locked_feature_is_not_locked_again(rt: HostRuntime) {
     assert_eq!(rt;
         talks(&rt, rt.alloc(), &LOCKING, 0, 3, &LOCKED_AND_REFUSED),
+        Ok(true)
+    );
+}
+
+#[test]
+fn properties_are_set_in_order_and_replaced_as_a_whole(rt: HostRuntime) {
+    assert_eq!(rt;
+        talks(&rt, rt.alloc(), &SETTING, 0, 2, &SET),
+        Ok(true)
+    );
+}
+
+#[test]
+fn deletes_and_locators_are_of_their_own_type(rt: HostRuntime) {
+    assert_eq!(rt;
+        talks(&rt, rt.alloc(), &OF_TWO_TYPES, 0, 4, &FOR_TWO_TYPES),
+        Ok(true)
+    );
+}
+
+#[test]
+fn pages_with_a_lock_are_collections_without_links(rt: HostRuntime) {
+    assert_eq!(rt;
+        talks(&rt, rt.alloc(), &PAGES_WITH_LOCKS, 0, 3, &LOCKED_PAGES),
+        Ok(true)
+    );
+}
+
+// The moments at which the messages of `COUNTING` come, in seconds.
+static MOMENTS: [u64; 3] = [1000, 900, 18_446_744_073_709_551_615];
+
+// Whether a session over this input, each message at its moment, comes to this output.
+fn comes_to_at<R: Threads + Wait + Sync>(
+    rt: &R,
+    alloc: Global,
+    input: &str,
+    output: &str,
+) -> Mem<bool> {
+    let clock = ListClock::new(Vec::from_slice(alloc, &MOMENTS)?);
+    let words = &["talk", "d"];
+    let ready = make_ready_at(alloc, clock, words, SCHEMA, input, &[], 20_000)?;
+    let (end, out) = go_empty(rt, alloc, ready)?;
+    Ok(end == (0, Some(1)) && out.bytes() == output.as_bytes())
+}
+
+fn counts_at<R: Threads + Wait + Sync>(rt: &R, alloc: Global) -> Mem<bool> {
+    let input = messages_of(alloc, &COUNTING)?;
+    let output = answers_of(alloc, &COUNTED)?;
+    comes_to_at(rt, alloc, input.as_str(), output.as_str())
+}
+
+#[test]
+fn reads_print_their_own_moment(rt: HostRuntime) {
+    assert_eq!(rt; counts_at(&rt, rt.alloc()), Ok(true));
+}
+
+#[test]
+fn types_stand_in_the_order_asked(rt: HostRuntime) {
+    assert_eq!(rt;
+        talks(&rt, rt.alloc(), &DESCRIBING, 0, 0, &DESCRIBED),
+        Ok(true)
+    );
+}
+
+#[test]
+fn values_are_of_the_type_of_the_first_query(rt: HostRuntime) {
+    assert_eq!(rt;
+        talks(&rt, rt.alloc(), &LABELS, 0, 2, &LABELLED),
         Ok(true)
     );
 }
