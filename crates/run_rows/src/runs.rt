@@ -651,7 +651,10 @@ fn says_unread<R: Threads + Wait + Sync>(
 
 #[test]
 fn a_schema_is_judged_behind_its_end(rt: HostRuntime) {
-    assert_eq!(rt; says_unread(&rt, rt.alloc(), 4, "wfsd: cannot read\n"), Ok(true));
+    assert_eq!(rt;
+        says_unread(&rt, rt.alloc(), 4, "wfsd: cannot read\n"),
+        Ok(true)
+    );
 }
 
 // Words, and the end and the front of a line that there are where the output has room for three bytes.

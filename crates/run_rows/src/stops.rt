@@ -2,8 +2,9 @@
 
 use disk_core::{Disk, MemDisk, Pair};
 use program_samples::{
-    Answer, COLLECTION, End, FEATURES, Left, Message, REPORT, REPORT_END, REPORT_LOCATOR, REPORT_TEXT,
-    Ready, SCHEMA, answers_of, disk_with, empty, end_of, hold, make_ready, messages_of, text_of,
+    Answer, COLLECTION, End, FEATURES, Left, Message, REPORT, REPORT_END, REPORT_LOCATOR,
+    REPORT_TEXT, Ready, SCHEMA, answers_of, disk_with, empty, end_of, hold, make_ready,
+    messages_of, text_of,
 };
 use std::alloc::Global;
 use std::sync::Wait;
@@ -308,7 +309,14 @@ static FAULTS: [Ending; 5] = [
         (5, Some(0)),
         FAULT_LINE,
     ),
-    (&["drill", "1", "d"], b"", &[14], None, (5, Some(0)), FAULT_LINE),
+    (
+        &["drill", "1", "d"],
+        b"",
+        &[14],
+        None,
+        (5, Some(0)),
+        FAULT_LINE,
+    ),
 ];
 
 // The beginning of a checkpoint of the first opening: the first type has given all its numbers, 1,000,000,000,000.
@@ -322,7 +330,14 @@ const LAST: &[u8] =
 const FULL_LINE: &str = "wfsd: full\n";
 
 static FULL: [Ending; 2] = [
-    (&["drill", "1", "d"], ALL_GIVEN, &[], None, (11, Some(0)), FULL_LINE),
+    (
+        &["drill", "1", "d"],
+        ALL_GIVEN,
+        &[],
+        None,
+        (11, Some(0)),
+        FULL_LINE,
+    ),
     (&["talk", "d"], LAST, &[], None, (11, None), FULL_LINE),
 ];
 
@@ -359,7 +374,10 @@ fn a_disk_that_fails_has_its_status(rt: HostRuntime) {
 
 #[test]
 fn no_room_has_its_status(rt: HostRuntime) -> Result<(), Fail> {
-    assert_eq!(rt; (INSERTED.len(), ALL_GIVEN.len(), LAST.len()), (155, 57, 57));
+    assert_eq!(rt;
+        (INSERTED.len(), ALL_GIVEN.len(), LAST.len()),
+        (155, 57, 57)
+    );
     assert_eq!(rt; ends_otherwise(&rt, rt.alloc(), &FULL), Ok(None));
     Ok(())
 }
