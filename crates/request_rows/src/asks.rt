@@ -13,7 +13,7 @@ use wfs_model::AskFault;
 // and the size of its entry.
 type Row = (&'static str, u8, &'static str, u32);
 
-static ROWS: [Row; 9] = [
+static ROWS: [Row; 11] = [
     ("GET / HTTP/1.1\r\nHost: h\r\n\r\n", 5, "path", 0),
     ("GET /wfs/ HTTP/1.1\r\nHost: h\r\n\r\n", 5, "path", 0),
     ("GET /WFS HTTP/1.1\r\nHost: h\r\n\r\n", 5, "path", 0),
@@ -30,6 +30,19 @@ static ROWS: [Row; 9] = [
         2,
     ),
     ("HEAD /wfs?a HTTP/1.1\r\nHost: h\r\n\r\n", 6, "method", 0),
+    // A method is its letters and their case (RFC 9110, section 9.1).
+    (
+        "get /wfs?service=WFS&request=GetCapabilities HTTP/1.1\r\nHost: h\r\n\r\n",
+        6,
+        "method",
+        0,
+    ),
+    (
+        "post /wfs HTTP/1.1\r\nHost: h\r\nContent-Length: 3\r\n\r\n<a>",
+        6,
+        "method",
+        3,
+    ),
     (
         "POST /wfs HTTP/1.1\r\nHost: h\r\nContent-Length: 3\r\n\r\n<a>",
         7,
