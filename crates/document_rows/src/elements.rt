@@ -565,7 +565,11 @@ fn fault_of_parts(
     for _ in 0..count {
         holds.push_str(part)?;
     }
-    read_geometry(alloc, &tree(alloc, local, "", holds.as_str())?, &known(alloc)?)?;
+    read_geometry(
+        alloc,
+        &tree(alloc, local, "", holds.as_str())?,
+        &known(alloc)?,
+    )?;
     Ok(())
 }
 
@@ -579,8 +583,20 @@ fn positions_are_counted_over_all_parts(rt: HostRuntime) {
     let alloc = rt.alloc();
     let too_many = Err(GmlFault::Shape(GeomFault::TooMany));
     let line = "LineString";
-    assert_eq!(rt; fault_of_parts(alloc, line, "pos=1 2", "|1 2", 9_999), Ok(()));
-    assert_eq!(rt; fault_of_parts(alloc, line, "pos=1 2", "|1 2", 10_000), too_many);
-    assert_eq!(rt; fault_of_parts(alloc, "Polygon", SHELL, HOLE, 2_499), Ok(()));
-    assert_eq!(rt; fault_of_parts(alloc, "Polygon", SHELL, HOLE, 2_500), too_many);
+    assert_eq!(rt;
+        fault_of_parts(alloc, line, "pos=1 2", "|1 2", 9_999),
+        Ok(())
+    );
+    assert_eq!(rt;
+        fault_of_parts(alloc, line, "pos=1 2", "|1 2", 10_000),
+        too_many
+    );
+    assert_eq!(rt;
+        fault_of_parts(alloc, "Polygon", SHELL, HOLE, 2_499),
+        Ok(())
+    );
+    assert_eq!(rt;
+        fault_of_parts(alloc, "Polygon", SHELL, HOLE, 2_500),
+        too_many
+    );
 }

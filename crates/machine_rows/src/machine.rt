@@ -315,7 +315,11 @@ static RUNS: [(&str, &[Step]); 21] = [
                 Ask::Lock(Some(1), Take::AllOrNone, 100),
                 Want::Locked(Some((1, 3)), &[1], &[]),
             ),
-            (1149, Ask::Renew(1, 2), Want::Locked(Some((1, 2)), &[3], &[])),
+            (
+                1149,
+                Ask::Renew(1, 2),
+                Want::Locked(Some((1, 2)), &[3], &[]),
+            ),
         ],
     ),
     // A moment counts as 200,000,000,000 at the most.

@@ -326,10 +326,7 @@ fn a_locked_feature_is_not_locked_again(rt: HostRuntime) {
 
 #[test]
 fn properties_are_set_in_order_and_replaced_as_a_whole(rt: HostRuntime) {
-    assert_eq!(rt;
-        talks(&rt, rt.alloc(), &SETTING, 0, 2, &SET),
-        Ok(true)
-    );
+    assert_eq!(rt; talks(&rt, rt.alloc(), &SETTING, 0, 2, &SET), Ok(true));
 }
 
 #[test]
@@ -386,10 +383,7 @@ fn types_stand_in_the_order_asked(rt: HostRuntime) {
 
 #[test]
 fn values_are_of_the_type_of_the_first_query(rt: HostRuntime) {
-    assert_eq!(rt;
-        talks(&rt, rt.alloc(), &LABELS, 0, 2, &LABELLED),
-        Ok(true)
-    );
+    assert_eq!(rt; talks(&rt, rt.alloc(), &LABELS, 0, 2, &LABELLED), Ok(true));
 }
 
 static EXPECTING: [Message; 2] = [

@@ -17,7 +17,10 @@ pub(super) static SETTING: [Message; 3] = [
         "POST /wfs HTTP/1.1\r\nHost: h\r\nContent-Length: 643\r\n\r\n<wfs:Transaction service=\"WFS\" version=\"2.0.2\" xmlns:wfs=\"http://www.opengis.net/wfs/2.0\" xmlns:fes=\"http://www.opengis.net/fes/2.0\" xmlns:m=\"http://example.org/marks\"><wfs:Update typeName=\"m:Mark\"><wfs:Property><wfs:ValueReference>size</wfs:ValueReference><wfs:Value>7</wfs:Value></wfs:Property><wfs:Property><wfs:ValueReference>label</wfs:ValueReference><wfs:Value>Q</wfs:Value></wfs:Property><wfs:Property><wfs:ValueReference>size</wfs:ValueReference><wfs:Value>8</wfs:Value></wfs:Property></wfs:Update><wfs:Replace><m:Mark><m:label>Z</m:label></m:Mark><fes:Filter><fes:ResourceId rid=\"Mark.1\"/></fes:Filter></wfs:Replace></wfs:Transaction>",
         "",
     ),
-    ("GET /wfs?service=WFS&request=GetFeature&typeNames=Mark HTTP/1.1\r\nHost: h\r\n\r\n", ""),
+    (
+        "GET /wfs?service=WFS&request=GetFeature&typeNames=Mark HTTP/1.1\r\nHost: h\r\n\r\n",
+        "",
+    ),
 ];
 
 // Without a filter all are set, of two values of one property the later one stands, and nothing of what is replaced is
@@ -50,8 +53,14 @@ pub(super) static OF_TWO_TYPES: [Message; 4] = [
         "",
         "<m:Mark><m:label>A</m:label></m:Mark><m:Way><m:course><LineString xmlns=\"http://www.opengis.net/gml/3.2\"><posList>0 0 5 5</posList></LineString></m:course></m:Way>",
     ),
-    ("GET /wfs?service=WFS&request=LockFeature&resourceId=Way.1 HTTP/1.1\r\nHost: h\r\n\r\n", ""),
-    ("GET /wfs?service=WFS&request=LockFeature&typeNames=Way HTTP/1.1\r\nHost: h\r\n\r\n", ""),
+    (
+        "GET /wfs?service=WFS&request=LockFeature&resourceId=Way.1 HTTP/1.1\r\nHost: h\r\n\r\n",
+        "",
+    ),
+    (
+        "GET /wfs?service=WFS&request=LockFeature&typeNames=Way HTTP/1.1\r\nHost: h\r\n\r\n",
+        "",
+    ),
     (
         "POST /wfs HTTP/1.1\r\nHost: h\r\nContent-Length: 303\r\n\r\n<wfs:Transaction service=\"WFS\" version=\"2.0.2\" xmlns:wfs=\"http://www.opengis.net/wfs/2.0\" xmlns:fes=\"http://www.opengis.net/fes/2.0\" xmlns:m=\"http://example.org/marks\"><wfs:Delete typeName=\"m:Mark\"><fes:Filter><fes:Not><fes:ResourceId rid=\"Mark.9\"/></fes:Not></fes:Filter></wfs:Delete></wfs:Transaction>",
         "",
@@ -160,32 +169,41 @@ const TWO_COUNTED: &str = "\" numberMatched=\"2\" numberReturned=\"0\"/>";
 // Their moments are 900, though an entry came at 1,000 before; and 200,000,000,000, which is the greatest.
 pub(super) static COUNTED: [Answer; 3] = [
     ("200 OK", "text/xml", "", &[INSERTED]),
-    ("200 OK", FEATURES, "", &[PRINTED, "1970-01-01T00:15:00Z", TWO_COUNTED]),
-    ("200 OK", FEATURES, "", &[PRINTED, "8307-10-01T19:33:20Z", TWO_COUNTED]),
-];
-
-pub(super) static DESCRIBING: [Message; 1] = [
-    (
-        "GET /wfs?service=WFS&request=DescribeFeatureType&typeNames=Way,Field HTTP/1.1\r\nHost: h\r\n\r\n",
-        "",
-    ),
-];
-
-// Types stand in the order in which they were asked for.
-pub(super) static DESCRIBED: [Answer; 1] = [
     (
         "200 OK",
         FEATURES,
         "",
-        &[
-            "<?xml version=\"1.0\" encoding=\"UTF-8\"?><xs:schema xmlns:xs=\"http://www.w3.org/2001/XMLSchema\" xmlns:gml=\"http://www.opengis.net/gml/3.2\" xmlns:m=\"http://example.org/marks\" targetNamespace=\"http://example.org/marks\" elementFormDefault=\"qualified\"><xs:import namespace=\"http://www.opengis.net/gml/3.2\" schemaLocation=\"http://schemas.opengis.net/gml/3.2.1/gml.xsd\"/><xs:element name=\"Way\" type=\"m:WayType\" substitutionGroup=\"gml:AbstractFeature\"/><xs:complexType name=\"WayType\"><xs:complexContent><xs:extension base=\"gml:AbstractFeatureType\"><xs:sequence><xs:element name=\"course\" type=\"gml:CurvePropertyType\" minOccurs=\"0\"/></xs:sequence></xs:extension></xs:complexContent></xs:complexType><xs:element name=\"Field\" type=\"m:FieldType\" substitutionGroup=\"gml:AbstractFeature\"/><xs:complexType name=\"FieldType\"><xs:complexContent><xs:extension base=\"gml:AbstractFeatureType\"><xs:sequence><xs:element name=\"name\" type=\"xs:string\" minOccurs=\"0\"/><xs:element name=\"area\" type=\"gml:SurfacePropertyType\" minOccurs=\"0\"/></xs:sequence></xs:extension></xs:complexContent></xs:complexType></xs:schema>",
-        ],
+        &[PRINTED, "1970-01-01T00:15:00Z", TWO_COUNTED],
+    ),
+    (
+        "200 OK",
+        FEATURES,
+        "",
+        &[PRINTED, "8307-10-01T19:33:20Z", TWO_COUNTED],
     ),
 ];
 
+pub(super) static DESCRIBING: [Message; 1] = [(
+    "GET /wfs?service=WFS&request=DescribeFeatureType&typeNames=Way,Field HTTP/1.1\r\nHost: h\r\n\r\n",
+    "",
+)];
+
+// Types stand in the order in which they were asked for.
+pub(super) static DESCRIBED: [Answer; 1] = [(
+    "200 OK",
+    FEATURES,
+    "",
+    &[
+        "<?xml version=\"1.0\" encoding=\"UTF-8\"?><xs:schema xmlns:xs=\"http://www.w3.org/2001/XMLSchema\" xmlns:gml=\"http://www.opengis.net/gml/3.2\" xmlns:m=\"http://example.org/marks\" targetNamespace=\"http://example.org/marks\" elementFormDefault=\"qualified\"><xs:import namespace=\"http://www.opengis.net/gml/3.2\" schemaLocation=\"http://schemas.opengis.net/gml/3.2.1/gml.xsd\"/><xs:element name=\"Way\" type=\"m:WayType\" substitutionGroup=\"gml:AbstractFeature\"/><xs:complexType name=\"WayType\"><xs:complexContent><xs:extension base=\"gml:AbstractFeatureType\"><xs:sequence><xs:element name=\"course\" type=\"gml:CurvePropertyType\" minOccurs=\"0\"/></xs:sequence></xs:extension></xs:complexContent></xs:complexType><xs:element name=\"Field\" type=\"m:FieldType\" substitutionGroup=\"gml:AbstractFeature\"/><xs:complexType name=\"FieldType\"><xs:complexContent><xs:extension base=\"gml:AbstractFeatureType\"><xs:sequence><xs:element name=\"name\" type=\"xs:string\" minOccurs=\"0\"/><xs:element name=\"area\" type=\"gml:SurfacePropertyType\" minOccurs=\"0\"/></xs:sequence></xs:extension></xs:complexContent></xs:complexType></xs:schema>",
+    ],
+)];
+
 // A stored query of marks and then of fields, and the labels of what it selects.
 pub(super) static LABELS: [Message; 3] = [
-    ("", "<m:Mark><m:label>A</m:label></m:Mark><m:Field><m:name>north</m:name></m:Field>"),
+    (
+        "",
+        "<m:Mark><m:label>A</m:label></m:Mark><m:Field><m:name>north</m:name></m:Field>",
+    ),
     (
         "POST /wfs HTTP/1.1\r\nHost: h\r\nContent-Length: 382\r\n\r\n<wfs:CreateStoredQuery service=\"WFS\" version=\"2.0.2\" xmlns:wfs=\"http://www.opengis.net/wfs/2.0\" xmlns:fes=\"http://www.opengis.net/fes/2.0\" xmlns:m=\"http://example.org/marks\"><wfs:StoredQueryDefinition id=\"urn:x:all\"><wfs:QueryExpressionText><wfs:Query typeNames=\"m:Mark\"/><wfs:Query typeNames=\"m:Field\"/></wfs:QueryExpressionText></wfs:StoredQueryDefinition></wfs:CreateStoredQuery>",
         "",

@@ -123,8 +123,14 @@ static MISPLACED: [(&str, &str); 41] = [
         "PropertyIsBetween(|Literal=size|LowerBoundary(|Literal=1|)|UpperBoundary(|Literal=2|)|)",
         "8 Literal",
     ),
-    ("PropertyIsEqualTo(|Function=A|ValueReference=label|)", "8 Function"),
-    ("PropertyIsBetween(|ValueReference=size|LowerBoundary(|Literal=1|)|)", "8 PropertyIsBetween"),
+    (
+        "PropertyIsEqualTo(|Function=A|ValueReference=label|)",
+        "8 Function",
+    ),
+    (
+        "PropertyIsBetween(|ValueReference=size|LowerBoundary(|Literal=1|)|)",
+        "8 PropertyIsBetween",
+    ),
     ("Intersects(|ValueReference=place|)", "8 Intersects"),
 ];
 
@@ -273,7 +279,10 @@ static REFUSED: [(&str, &str); 52] = [
         "PropertyIsBetween(|ValueReference=size|LowerBoundary(|@a=1|Literal=1|)|UpperBoundary(|Literal=2|)|)",
         "12 a",
     ),
-    ("PropertyIsEqualTo(|@a=1|ValueReference=label|Literal=A|)", "12 a"),
+    (
+        "PropertyIsEqualTo(|@a=1|ValueReference=label|Literal=A|)",
+        "12 a",
+    ),
     (
         "PropertyIsLike(|@wildCard=*|@singleChar=.|@escapeChar=!|ValueReference=label|Literal(|@a=1|=a|)|)",
         "12 a",
@@ -282,9 +291,15 @@ static REFUSED: [(&str, &str); 52] = [
         "Not(|PropertyIsNull(|ValueReference=none|)|PropertyIsNull(|ValueReference=size|)|)",
         "11 none",
     ),
-    ("PropertyIsNull(|ValueReference=none|)|PropertyIsNull(|ValueReference=size|)", "11 none"),
+    (
+        "PropertyIsNull(|ValueReference=none|)|PropertyIsNull(|ValueReference=size|)",
+        "11 none",
+    ),
     ("PropertyIsNull(|ValueReference=none|Literal=1|)", "11 none"),
-    ("PropertyIsEqualTo(|ValueReference=size|Literal=x|Literal=1|)", "11 size"),
+    (
+        "PropertyIsEqualTo(|ValueReference=size|Literal=x|Literal=1|)",
+        "11 size",
+    ),
 ];
 
 #[test]

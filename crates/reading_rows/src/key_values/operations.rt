@@ -91,7 +91,10 @@ static ASKED: [(&str, &str); 31] = [
         "GetPropertyValue&storedQuery_id=q&valueReference=label&count=2&startIndex=1&resultType=hits",
         "stored q =label values 0 from 1 count 2 hits",
     ),
-    ("GetFeatureWithLock&storedQuery_id=q&count=2&startIndex=1", "stored q from 1 count 2 for 300"),
+    (
+        "GetFeatureWithLock&storedQuery_id=q&count=2&startIndex=1",
+        "stored q from 1 count 2 for 300",
+    ),
 ];
 
 // What is refused.

@@ -164,7 +164,10 @@ static SORTED: [(&str, &str); 23] = [
         "<f:SortProperty><f:ValueReference>size</f:ValueReference></f:SortProperty></f:SortBy><f:SortBy><f:SortProperty><f:ValueReference>size</f:ValueReference></f:SortProperty>",
         "8 SortBy",
     ),
-    ("<f:SortProperty><ValueReference>size</ValueReference></f:SortProperty>", "8 ValueReference"),
+    (
+        "<f:SortProperty><ValueReference>size</ValueReference></f:SortProperty>",
+        "8 ValueReference",
+    ),
     (
         "<f:SortProperty><f:ValueReference>size</f:ValueReference><SortOrder>DESC</SortOrder></f:SortProperty>",
         "8 SortOrder",
