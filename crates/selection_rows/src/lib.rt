@@ -1,4 +1,5 @@
-//! Rows of what filters choose and types allow, of the model's words, copies and limits, and of which features lie near a box.
+//! Rows of what filters choose and types allow, of the model's words, copies and limits, of which features lie near a
+//! box, and of the order of what is sorted.
 #![tactic(auto)]
 
 #[cfg(test)]
