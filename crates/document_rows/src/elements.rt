@@ -1,4 +1,4 @@
-//! Elements that other programs write, and wrong ones, with what the format says of each; and geometries, written and read back.
+//! Elements that other programs write, and wrong ones, each with what the format says of it; geometries, written and read.
 
 use crate::names::name;
 use doc_tree::{Attribute, Element, QName};
@@ -17,9 +17,9 @@ const OLD_GML: &str = "http://www.opengis.net/gml";
 // The name of an element, its attributes, what it holds, and what it is read as.
 //
 // An attribute is the name of the elements that have it, its own, and its value, with spaces between; `;` parts
-// attributes, and one behind `:` is in the namespace of GML. What an element holds is the names of elements that hold one another, with `/` between, and `=` and the
-// text of the last; `;` parts these, and `|` the texts of several in place of the last. A name behind `!` is of an
-// older GML.
+// attributes, and one behind `:` is in the namespace of GML. What an element holds is the names of elements that hold
+// one another, with `/` between, and `=` and the text of the last; `;` parts these, and `|` the texts of several in
+// place of the last. A name behind `!` is of an older GML.
 type Case = (&'static str, &'static str, &'static str, &'static str);
 
 fn gml(alloc: Global, local: &str) -> Mem<QName> {
@@ -553,50 +553,42 @@ fn a_line_has_up_to_ten_thousand_positions(rt: HostRuntime) {
     );
 }
 
-// An element of a front, and of one part so many times.
-fn fault_of_parts(
-    alloc: Global,
-    local: &str,
-    front: &str,
-    part: &str,
-    count: u32,
-) -> Result<(), GmlFault> {
-    let mut holds = String::from_str(alloc, front)?;
-    for _ in 0..count {
-        holds.push_str(part)?;
-    }
-    read_geometry(
-        alloc,
-        &tree(alloc, local, "", holds.as_str())?,
-        &known(alloc)?,
-    )?;
-    Ok(())
-}
+/// The name of an element, a front of what it holds, a part that stands behind it, how often, and what is read of it.
+type Counted = (
+    &'static str,
+    &'static str,
+    &'static str,
+    u32,
+    Result<(), GmlFault>,
+);
 
 const SHELL: &str = "exterior/LinearRing/posList=0 0 9 0 9 9 0 0";
 
 const HOLE: &str = ";interior/LinearRing/posList=5 2 6 2 6 3 5 2";
 
+const TOO_MANY: Result<(), GmlFault> = Err(GmlFault::Shape(GeomFault::TooMany));
+
 // The position of the front is one; a ring has four, also that of the front.
+static COUNTED: [Counted; 4] = [
+    ("LineString", "pos=1 2", "|1 2", 9_999, Ok(())),
+    ("LineString", "pos=1 2", "|1 2", 10_000, TOO_MANY),
+    ("Polygon", SHELL, HOLE, 2_499, Ok(())),
+    ("Polygon", SHELL, HOLE, 2_500, TOO_MANY),
+];
+
+fn fault_of_parts(alloc: Global, row: &Counted) -> Result<(), GmlFault> {
+    let mut holds = String::from_str(alloc, row.1)?;
+    for _ in 0..row.3 {
+        holds.push_str(row.2)?;
+    }
+    let element = tree(alloc, row.0, "", holds.as_str())?;
+    read_geometry(alloc, &element, &known(alloc)?)?;
+    Ok(())
+}
+
 #[test]
 fn positions_are_counted_over_all_parts(rt: HostRuntime) {
-    let alloc = rt.alloc();
-    let too_many = Err(GmlFault::Shape(GeomFault::TooMany));
-    let line = "LineString";
-    assert_eq!(rt;
-        fault_of_parts(alloc, line, "pos=1 2", "|1 2", 9_999),
-        Ok(())
-    );
-    assert_eq!(rt;
-        fault_of_parts(alloc, line, "pos=1 2", "|1 2", 10_000),
-        too_many
-    );
-    assert_eq!(rt;
-        fault_of_parts(alloc, "Polygon", SHELL, HOLE, 2_499),
-        Ok(())
-    );
-    assert_eq!(rt;
-        fault_of_parts(alloc, "Polygon", SHELL, HOLE, 2_500),
-        too_many
-    );
+    for row in COUNTED.iter() {
+        assert_eq!(rt; fault_of_parts(rt.alloc(), row), row.4, "{}", row.3);
+    }
 }

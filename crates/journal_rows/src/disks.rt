@@ -146,7 +146,7 @@ fn a_piece_is_written_to_its_end_or_fails(rt: HostRuntime) -> Result<(), Fail> {
 
 // The device is opened, as its length tells. It takes no byte, and cannot be synced.
 #[test]
-fn a_full_device_fails_at_each_call(rt: HostRuntime) -> Result<(), Fail> {
+fn a_full_device_fails_at_writes_and_at_a_sync(rt: HostRuntime) -> Result<(), Fail> {
     let mut full = FileDisk::of(rt, Text::of(rt.alloc(), "/dev/full")?);
     assert_eq!(rt; full.len(), Ok(0));
     assert_eq!(rt; full.write_at(0, b"a"), Err(Failed));

@@ -499,7 +499,8 @@ static OF_FOUR: [Run; 2] = [
     ),
 ];
 
-// The drill's mark is at its first draws. The first of these lies in its square, the second in the surroundings alone.
+// The drill's mark is at its first draws. Of the marks that were there the first lies in its square, the second in the
+// surroundings alone.
 static BESIDE: [Run; 2] = [
     (
         TALK,

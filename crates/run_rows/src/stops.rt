@@ -290,7 +290,7 @@ type Ending = (
 );
 
 // The first opening, and Mark.1 with the label A.
-const INSERTED: &[u8] =
+const ONE_MARK_FILE: &[u8] =
     b"\x01WFSJNL\x01\0\0\0\0\0\0\0\x01\x01\0\0\0f\x01\0\0\0\0\0\0\0\x01\0\0\0YMark(label:text,size:integer,place:point);Field(name:text,area:polygon);Way(course:line);\x01\0\0\0\x1a\x02\0\0\0\x01\x01\0\0\0\0\0\0\0\0\0\x01\0\x03\x01\0\0\0\x01A\0\0\0";
 
 const FAULT_LINE: &str = "wfsd: store fault\n";
@@ -303,7 +303,7 @@ static FAULTS: [Ending; 5] = [
     (&["compact", "d"], b"", &[0], None, (5, None), FAULT_LINE),
     (
         &["compact", "d"],
-        INSERTED,
+        ONE_MARK_FILE,
         &[],
         Some(2),
         (5, Some(0)),
@@ -375,7 +375,7 @@ fn a_disk_that_fails_has_its_status(rt: HostRuntime) {
 #[test]
 fn no_room_has_its_status(rt: HostRuntime) -> Result<(), Fail> {
     assert_eq!(rt;
-        (INSERTED.len(), ALL_GIVEN.len(), LAST.len()),
+        (ONE_MARK_FILE.len(), ALL_GIVEN.len(), LAST.len()),
         (155, 57, 57)
     );
     assert_eq!(rt; ends_otherwise(&rt, rt.alloc(), &FULL), Ok(None));

@@ -5,7 +5,7 @@ ghost use Rattle.feature_schema.specs.Rules.{KeepsRules};
 use crate::disks::pair;
 use crate::requests::schema;
 use crate::runs::{ended_so, run_on};
-use crate::sides::{EMPTY, INSERTED};
+use crate::sides::{EMPTY, INSERTED, Side};
 use crate::steps::{Ask, Stand, Step, Told};
 use feature_values::Schema;
 use std::alloc::Global;
@@ -55,42 +55,70 @@ const FULL_THEN: Step = (
     ONE_ENTRY,
 );
 
-/// The calls of side a's disk that fail, and the steps, on empty files.
-type Fault = (&'static [u64], &'static [Step]);
+// Side a as if no call had failed.
+const UNHARMED: Option<Side> = Some(INSERTED);
+
+/// How many entries there may be, the calls of side a's disk that fail, the steps on empty files, and side a afterwards, which is
+/// not looked at where the next call would fail.
+type Fault = (u16, &'static [u64], &'static [Step], Option<Side>);
 
 // The start makes the calls 0 to 13 of side a's disk (`stops` says which). An insertion writes its record behind the closed gate by call 14 and
 // syncs, opens the gate by call 16 and syncs. Where one of the last two fails the record is begun, and the next insertion repairs it first:
 // 0 at that gate by call 18, or 17 where call 16 was the last, and a sync. In the end side a holds Mark.1 as if no call
 // had failed.
 static FAULTS: [Fault; 8] = [
-    (&[14], &[FAULT, LOCKED, INSERTED_THEN]),
-    (&[15], &[FAULT, LOCKED, INSERTED_THEN]),
-    (&[16], &[FAULT, LOCKED, INSERTED_THEN]),
+    (9, &[14], &[FAULT, LOCKED, INSERTED_THEN], UNHARMED),
+    (9, &[15], &[FAULT, LOCKED, INSERTED_THEN], UNHARMED),
+    (9, &[16], &[FAULT, LOCKED, INSERTED_THEN], UNHARMED),
     // the second sync
-    (&[17], &[FAULT, LOCKED, INSERTED_THEN]),
+    (9, &[17], &[FAULT, LOCKED, INSERTED_THEN], UNHARMED),
     // and then a call of the repair
-    (&[16, 17], &[FAULT, FAULT, LOCKED, INSERTED_THEN]),
+    (
+        9,
+        &[16, 17],
+        &[FAULT, FAULT, LOCKED, INSERTED_THEN],
+        UNHARMED,
+    ),
     // a lock comes before that call, and does not make it
-    (&[16, 17], &[FAULT, LOCKED, FAULT_THEN, INSERTED_THEN]),
-    (&[17, 18], &[FAULT, FAULT, LOCKED, INSERTED_THEN]),
-    (&[17, 19], &[FAULT, FAULT, LOCKED, INSERTED_THEN]),
+    (
+        9,
+        &[16, 17],
+        &[FAULT, LOCKED, FAULT_THEN, INSERTED_THEN],
+        UNHARMED,
+    ),
+    (
+        9,
+        &[17, 18],
+        &[FAULT, FAULT, LOCKED, INSERTED_THEN],
+        UNHARMED,
+    ),
+    (
+        9,
+        &[17, 19],
+        &[FAULT, FAULT, LOCKED, INSERTED_THEN],
+        UNHARMED,
+    ),
 ];
 
 // There may be one entry. A step that is full makes no call of the repair either.
-static FULL: [Fault; 1] = [(&[16, 17], &[FAULT, LOCKED, FULL_THEN])];
+static FULL: [Fault; 1] = [(1, &[16, 17], &[FAULT, LOCKED, FULL_THEN], None)];
 
 fn fails_so(alloc: Global, schema: &Schema, fault: &Fault) -> Mem<bool>
     requires { KeepsRules schema.now }
 {
-    let (calls, steps) = *fault;
+    let (entries, calls, steps, after) = *fault;
     let disks = pair(alloc, EMPTY, calls)?;
-    Ok(ended_so(run_on(alloc, disks, schema, 9, steps), INSERTED))
+    let run = run_on(alloc, disks, schema, entries, steps);
+    Ok(match after {
+        Some(side) => ended_so(run, side),
+        None => run.0,
+    })
 }
 
-fn first_other(alloc: Global, schema: &Schema) -> Mem<Option<usize>>
+fn first_other(alloc: Global, schema: &Schema, faults: &[Fault]) -> Mem<Option<usize>>
     requires { KeepsRules schema.now }
 {
-    for (i, fault) in FAULTS.iter().enumerate() {
+    for (i, fault) in faults.iter().enumerate() {
         if !fails_so(alloc, schema, fault)? {
             return Ok(Some(i));
         }
@@ -98,44 +126,19 @@ fn first_other(alloc: Global, schema: &Schema) -> Mem<Option<usize>>
     Ok(None)
 }
 
-fn first_wrong(alloc: Global) -> Mem<Option<usize>> {
+fn first_wrong(alloc: Global, faults: &[Fault]) -> Mem<Option<usize>> {
     let schema = schema(alloc)?;
-    first_other(alloc, &schema)
-}
-
-fn is_full_so(alloc: Global, schema: &Schema, fault: &Fault) -> Mem<bool>
-    requires { KeepsRules schema.now }
-{
-    let (calls, steps) = *fault;
-    let disks = pair(alloc, EMPTY, calls)?;
-    let (is_so, _) = run_on(alloc, disks, schema, 1, steps);
-    Ok(is_so)
-}
-
-fn first_not_full(alloc: Global, schema: &Schema) -> Mem<Option<usize>>
-    requires { KeepsRules schema.now }
-{
-    for (i, fault) in FULL.iter().enumerate() {
-        if !is_full_so(alloc, schema, fault)? {
-            return Ok(Some(i));
-        }
-    }
-    Ok(None)
-}
-
-fn first_wrong_within(alloc: Global) -> Mem<Option<usize>> {
-    let schema = schema(alloc)?;
-    first_not_full(alloc, &schema)
+    first_other(alloc, &schema, faults)
 }
 
 #[test]
 fn a_fault_leaves_nothing(rt: HostRuntime) -> Result<(), Fail> {
-    assert_eq!(rt; first_wrong(rt.alloc()), Ok(None));
+    assert_eq!(rt; first_wrong(rt.alloc(), &FAULTS), Ok(None));
     Ok(())
 }
 
 #[test]
 fn a_full_step_asks_no_disk(rt: HostRuntime) -> Result<(), Fail> {
-    assert_eq!(rt; first_wrong_within(rt.alloc()), Ok(None));
+    assert_eq!(rt; first_wrong(rt.alloc(), &FULL), Ok(None));
     Ok(())
 }

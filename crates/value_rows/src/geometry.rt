@@ -372,7 +372,7 @@ fn is_field_copied(g: &Geometry) -> Mem<bool> {
     Ok(is_field(g) && is_field(&copy) && copy == *g)
 }
 
-// Whether the field is copied, and is neither the field with no gap nor a point.
+// Whether the field is copied, and is neither the field with no gap or with another one nor a point.
 fn field_holds(alloc: Global, p: Pos) -> Mem<bool> {
     match field(alloc, &GAP)? {
         None => Ok(false),

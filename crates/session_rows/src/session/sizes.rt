@@ -15,7 +15,7 @@ fn repeated(alloc: Global, front: &str, part: &str, count: usize, back: &str) ->
     Ok(text)
 }
 
-/// A front, what is repeated, how often, a back, and of what is read of it the first word and how many bytes it has.
+/// A front, what is repeated, how often, a back, and of what is read of it the beginning and how many bytes it has.
 static SIZES: [(&str, &str, usize, &str, &str, usize); 24] = [
     ("GET / HTTP/1.1\r\nA: ", "a", 16361, "\r\n\r\n", "GET", 11),
     (

@@ -494,7 +494,7 @@ pub static ENDS: [(&str, &str); 25] = [
     ),
 ];
 
-// Files that end behind one of the top keys, and the line: the next key in the order of judging.
+// Files that end behind an unknown key or behind some of the top keys, and the line: the first top key that is missing.
 pub static STARTS: [(&str, &str); 5] = [
     ("zoo=1", "Key title"),
     ("title='T'", "Key address"),
