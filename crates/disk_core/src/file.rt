@@ -149,6 +149,7 @@ impl<R: Files<File = File>> FileDisk<R> {
     }
 
     fn open(&mut self) -> Result<(), Failed>
+        ensures lost { self.new.is_lost ≡ self.old.is_lost }
         ensures count { self.old.faults ≤ self.new.faults }
         ensures cause { OnErr result (Rose self.old.faults self.new.faults) }
     {

@@ -2,13 +2,14 @@
 use Rattle.std.specs.Prelude.{ℕ, Bool, false, not, ◌&&◌, ◌||◌, ◌==◌, nat_le, nat_eq, List, [], ◌∷◌, length, codes}
 use Rattle.std.specs.List.{list_all, starts_with}
 use Rattle.std.specs.Str.{bytes_eq, is_utf8, chars}
+use Rattle.doc_tree.specs.Characters.{is_allowed}
 
 abbrev pub is_in_range : ℕ → ℕ → ℕ → Bool
 is_in_range low high c = nat_le low c && nat_le c high
 
--- a character of XML 1.0 (section 2.2) other than a line feed
+-- a character that a document may hold, other than a line feed
 unfoldable pub is_line_character : ℕ → Bool
-is_line_character c = (c == 9) || ((c == 13) || (is_in_range 32 55295 c || (is_in_range 57344 65533 c || is_in_range 65536 1114111 c)))
+is_line_character c = is_allowed c && not (c == 10)
 
 -- a text of 1 to 256 such characters
 unfoldable pub is_line : List ℕ → Bool

@@ -5,15 +5,13 @@ ghost use Rattle.std.specs.List.{list_all};
 ghost use Rattle.std.specs.Str.{chars};
 ghost use Rattle.feature_schema.specs.Texts.{is_in_range, is_line_character, is_line, is_name_start, is_name_byte, is_name, is_taken, is_prefix};
 
+use doc_tree::is_allowed;
+
 #[tactic(auto, unfolding(crate::specs::Texts::is_line_character))]
 fn is_line_character(c: char) -> bool
     ensures { result ≡ is_line_character c }
 {
-    c == '\t'
-        || c == '\r'
-        || (c >= ' ' && c <= '\u{d7ff}')
-        || (c >= '\u{e000}' && c <= '\u{fffd}')
-        || (c >= '\u{10000}' && c <= '\u{10ffff}')
+    is_allowed(c) && c != '\n'
 }
 
 fn are_line_characters(text: &str) -> bool

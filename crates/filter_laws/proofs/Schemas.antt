@@ -30,7 +30,7 @@ use Rattle.filter_laws.proofs.Texts.{schema_name, name_meant, decimal_meant}
 
 line_allowed : (c : ℕ) → is_line_character c ≡ true → is_allowed c ≡ true
 unfolding is_line_character
-line_allowed c h = grind (arith, nat_tests, h)
+line_allowed c h = (both (is_allowed c) _ h).0
 
 all_allowed : (cs : List ℕ) → list_all is_line_character cs ≡ true → list_all is_allowed cs ≡ true
 all_allowed [] h = refl
