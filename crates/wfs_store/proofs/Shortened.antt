@@ -1,5 +1,5 @@
 -- What making the journal shorter comes to at each of its ends.
-use Rattle.std.proofs.Common.{◌≡◌, ◌⊎◌, inl, inr, ⊎_elim, ℕ, ◌≤◌, List, [], Option, Some, None, Result, Ok, Err, refl, ap, ◌∙◌, subst, arith}
+use Rattle.std.proofs.Common.{◌≡◌, ◌⊎◌, inl, inr, ⊎_elim, ℕ, ◌≤◌, List, [], Option, Some, None, Result, Ok, Err, refl, sym, ap, ◌∙◌, subst, arith}
 use Rattle.std.specs.Prelude.{◌+◌, min, not}
 use Rattle.checkpoints.specs.declared.fault.CompactFault.{CompactFault}
 use Rattle.checkpoints.specs.declared.fault.CompactFault.TheVariants as compacting
@@ -70,12 +70,17 @@ pub rose_then : {D : Type 0} (faults : D → ℕ) (a b c : Pair D) (fault : Comp
     → from_compaction fault ≡ StoreFault → OneRose faults a c
 rose_then faults a b c fault fell rose is = rose_on faults a b c fell (rose (ap (λ (f : CompactFault). let r : Result (Unit {0}) CompactFault = Err f in r) (disk_fault fault is)))
 
--- what is full is told of the checkpoint, by what features keep
-pub full_told : (generation limit most : ℕ) (told bodies : List (List ℕ)) (fault : CompactFault) → limit ≡ most → told ≡ bodies
-    → ((sum : ℕ) → (let r : Result (Unit {0}) CompactFault = Err fault in r) ≡ Err (compacting.Full sum) → ((generation ≡ last_count) × (sum ≡ last_count)) ⊎ Passes limit sum told)
-    → (sum : ℕ) → fault ≡ compacting.Full sum → (sum ≡ last_count) ⊎ Passes most sum bodies
-full_told generation limit most told bodies fault limit_is told_is full sum is =
-    ⊎_elim (λ last. inl last.1) (λ passes. inr (subst (λ (b : List (List ℕ)). Passes most sum b) told_is (subst (λ (n : ℕ). Passes n sum told) limit_is passes)))
+-- why a checkpoint is refused with this number: the generation is the last one, or these bodies pass the limit
+abbrev IsFullBy : (generation limit : ℕ) → List (List ℕ) → ℕ → Type 0
+IsFullBy generation limit bodies sum = ((generation ≡ last_count) × (sum ≡ last_count)) ⊎ Passes limit sum bodies
+
+-- what is full is told of the side before what was begun was ended, and of the checkpoint by what features keep
+pub full_told : (before generation limit most : ℕ) (told bodies : List (List ℕ)) (fault : CompactFault) → generation ≡ before → limit ≡ most → told ≡ bodies
+    → ((sum : ℕ) → (let r : Result (Unit {0}) CompactFault = Err fault in r) ≡ Err (compacting.Full sum) → IsFullBy generation limit told sum)
+    → (sum : ℕ) → fault ≡ compacting.Full sum → IsFullBy before most bodies sum
+full_told before generation limit most told bodies fault generation_is limit_is told_is full sum is =
+    ⊎_elim (λ last. inl (sym generation_is ∙ last.0, last.1))
+    (λ passes. inr (subst (λ (b : List (List ℕ)). Passes most sum b) told_is (subst (λ (n : ℕ). Passes n sum told) limit_is passes)))
     (full sum (ap (λ (f : CompactFault). let r : Result (Unit {0}) CompactFault = Err f in r) is))
 
 -- nothing is begun then, whatever a checkpoint that was not made left
@@ -170,20 +175,20 @@ module _ {D : Type 0} (moment : D → ℕ) (since : D → ℕ → List ℕ → T
   ended_is OutOfMemory after = refl
 
   full_is : (fault : CompactFault)
-      → ((sum : ℕ) → fault ≡ compacting.Full sum → (sum ≡ last_count) ⊎ Passes course.limits.side sum (checkpoint_bodies course.state.schema (durable course.state.state)))
+      → ((sum : ℕ) → fault ≡ compacting.Full sum → IsFullBy (generation_in before) course.limits.side (checkpoint_bodies course.state.schema (durable course.state.state)) sum)
       → IsFullSide was (Err (from_compaction fault))
   full_is compacting.DiskFault full at e = absurd cc
   full_is (compacting.Full sum) full at e =
       let same : record { limit = Side; number = sum } ≡ at = cc in
-      subst (λ (f : FullAt). (f.limit ≡ Side) × ((f.number ≡ last_count) ⊎ Passes course.limits.side f.number (checkpoint_in was))) same
-      (refl, subst (λ (s : State). (sum ≡ last_count) ⊎ Passes course.limits.side sum (checkpoint_bodies course.state.schema (durable s))) now_is (full sum refl))
+      subst (λ (f : FullAt). (f.limit ≡ Side) × IsFullBy (generation_in before) course.limits.side (checkpoint_in was) f.number) same
+      (refl, subst (λ (s : State). IsFullBy (generation_in before) course.limits.side (checkpoint_bodies course.state.schema (durable s)) sum) now_is (full sum refl))
   full_is compacting.OutOfMemory full at e = absurd cc
 
   -- the checkpoint was not made
   pub not_shortened : (fault : CompactFault) (mid after : Journal D)
       → Within moment since (SaysWith course.state.schema (durable course.state.state) begun) (disks_of before) (disks_of mid)
       → Always moment since (SaysWith course.state.schema (durable course.state.state) None) (disks_of mid) (disks_of after)
-      → ((sum : ℕ) → fault ≡ compacting.Full sum → (sum ≡ last_count) ⊎ Passes course.limits.side sum (checkpoint_bodies course.state.schema (durable course.state.state)))
+      → ((sum : ℕ) → fault ≡ compacting.Full sum → IsFullBy (generation_in before) course.limits.side (checkpoint_bodies course.state.schema (durable course.state.state)) sum)
       → NoneFell faults (disks_of before) (disks_of mid) → NoneFell faults (disks_of mid) (disks_of after)
       → (from_compaction fault ≡ StoreFault → OneRose faults (disks_of before) (disks_of after)) → SameSide before after
       → IsCompactionOf moment since images faults was (Err (from_compaction fault)) (held_of course after bodies side None tally)

@@ -45,10 +45,11 @@ abbrev pub IsEnded : {D : Type 0} → Held D → Result (Unit {0}) StepFault →
 IsEnded old (Err StoreFault) new = (new.begun ≡ None) ⊎ (new.begun ≡ old.begun)
 IsEnded old result new = new.begun ≡ None
 
--- The checkpoint passes the side's limit, with its length up to where it does, or there is no greater generation.
+-- The current generation is the last one, with its number, or the checkpoint passes the side's limit, with its length up to where it does.
 abbrev pub IsFullSide : {D : Type 0} → Held D → Result (Unit {0}) StepFault → Type 0
 IsFullSide old result =
-    (at : FullAt) → result ≡ Err (Full at) → (at.limit ≡ Side) × ((at.number ≡ last_count) ⊎ Passes old.limits.side at.number (checkpoint_in old))
+    (at : FullAt) → result ≡ Err (Full at) → (at.limit ≡ Side)
+    × (((old.current.generation ≡ last_count) × (at.number ≡ last_count)) ⊎ Passes old.limits.side at.number (checkpoint_in old))
 
 -- A store whose journal is made shorter.
 pub record IsCompactionOf {D : Type 0} (moment : D → ℕ) (since : D → ℕ → List ℕ → Type 0) (images : D → List ℕ → Type 0) (faults : D → ℕ) (old : Held D) (result : Result (Unit {0}) StepFault) (new : Held D) : Type 0 where

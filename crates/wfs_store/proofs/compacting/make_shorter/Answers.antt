@@ -32,8 +32,8 @@ returns-in-Err-shorten-clause-compacted g c bodies tally store =
     rw (c.features.ensures.schema, c.features.ensures.kept) at (c.shorten.ensures.goes None keeps) in
     let told : checkpoint_bodies c.features.result.now.schema c.features.result.now.kept ≡ checkpoint_bodies c.args.course.now.state.schema (durable c.args.course.now.state.state) =
     ap (λ (s : Schema). checkpoint_bodies s c.features.result.now.kept) c.features.ensures.schema ∙ ap (λ (k : Durable). checkpoint_bodies c.args.course.now.state.schema k) c.features.ensures.kept in
-    let full = full_told (generation_in c.mend.new.journal) (limit_of c.mend.new.journal) c.args.course.now.limits.side _ _ c.in-Err-shorten.fault
-    (c.mend.ensures.same.limit ∙ store.limit) told c.in-Err-shorten.ensures.full in
+    let full = full_told (generation_in c.args.journal.now) (generation_in c.mend.new.journal) (limit_of c.mend.new.journal) c.args.course.now.limits.side _ _ c.in-Err-shorten.fault
+    c.mend.ensures.same.generation (c.mend.ensures.same.limit ∙ store.limit) told c.in-Err-shorten.ensures.full in
     let rose = rose_then g.D.Disk.faults (disks_of c.args.journal.now) (disks_of c.mend.new.journal) (disks_of c.shorten.new.journal) c.in-Err-shorten.fault c.mend.ensures.count c.in-Err-shorten.ensures.cause in
     rw (c.in-Ok.ensures.ended, c.from_compaction.ensures) (not_shortened g.D.Disk.moment g.D.Disk.since g.D.Disk.images g.D.Disk.faults c.args.course.now c.args.journal.now bodies c.args.side.now c.args.begun.now tally c.requires.empty store c.in-Err-shorten.fault c.mend.new.journal c.shorten.new.journal
     (c.mend.ensures.goes c.args.course.now.state.schema (durable c.args.course.now.state.state) store.keeps) goes full c.mend.ensures.count c.shorten.ensures.count rose
