@@ -6,17 +6,19 @@ use thiserror::Error;
 use wfs_ends::OutOfMemory;
 use wfs_model::FullAt;
 
-/// A step came to nothing: state and history are as before.
+/// A step or a compaction came to nothing: state and history are as before.
 #[derive(Clone, Copy, Debug, PartialEq, Eq, Error)]
 pub enum StepFault {
-    /// A disk failed while the step's change was written. A crash may leave the change made, or the one that was begun before; the next
-    /// step that has a change ends what is begun.
-    #[error("a disk failed while the change was written")]
+    /// A disk failed while the journal was written. A crash may leave the change made that was begun before, or, of a step, its own; the next
+    /// step that has a change ends what is begun, and so does a compaction.
+    #[error("a disk failed while the journal was written")]
     StoreFault,
-    /// The entry would pass a limit: this one first.
+    /// A step's entry would pass a limit: this one first. Of a compaction it is the side's, with the length with which the checkpoint passes it,
+    /// or with the generation, where that is the last one.
     #[error("a limit would be passed")]
     Full(FullAt),
-    /// Memory ran out, before any disk was asked.
+    /// Memory ran out: of a step before any disk was asked; of a compaction maybe while the other side was written, where a part of a
+    /// checkpoint does no harm.
     #[error("out of memory")]
     OutOfMemory,
 }

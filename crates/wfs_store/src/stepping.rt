@@ -51,6 +51,7 @@ pub(crate) fn take_step<D: Disk>(
         tally.old) entry result (held_of course.new journal.new bodies side begun.new
         tally.new) }
 {
+    // does nothing: its contract tells what the disks stand for, and still do where the step is refused
     stands(journal);
     let seat = entry.seat;
     let (ready, copy) = make_ready(course, journal.side_length(), &entry)?;

@@ -54,6 +54,7 @@ pub(crate) fn write<D: Disk>(
 {
     match change {
         None => {
+            // does nothing: its contract tells what the disks, which are not asked, stand for
             stands(journal);
             Ok(())
         }
