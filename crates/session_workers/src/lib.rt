@@ -17,7 +17,7 @@ pub use ending::SessionEnd;
 pub use gate::{Gate, GatePoint, NoGate};
 pub use hold::session;
 pub use service::Service;
-pub use solo::solo_session;
+pub use solo::{answer_of, solo_session};
 
 #[cfg(test)]
 mod tests;

@@ -3,13 +3,12 @@
 ghost use Rattle.std.specs.Prelude.{◌≡◌, [], All, Ok};
 ghost use Rattle.disk_core.specs.Sides.{Always};
 ghost use Rattle.message_asks.specs.Asks.{asked};
-ghost use Rattle.message_asks.specs.Verdicts.{entry_of};
 ghost use Rattle.query_docs.specs.Reading.{IsKeptText};
 ghost use Rattle.wfs_model.specs.Changing.{IsChange};
 ghost use Rattle.wfs_model.specs.OfSchema.{IsOfSchema, stored_in};
 ghost use Rattle.session_workers.specs.Became.{StoreBecomes, TalliesAnswers, SaysOnTheWay};
 ghost use Rattle.session_workers.specs.Session.{IsSession};
-ghost use Rattle.session_workers.specs.Solo.{own_seat, answer_of, StoreAnswers, TakesSteps, store_meaning};
+ghost use Rattle.session_workers.specs.Solo.{answer_of, StoreAnswers, TakesSteps, store_meaning};
 
 use crate::answered::Answered;
 use crate::ending::SessionEnd;
@@ -19,26 +18,14 @@ use crate::service::Service;
 use disk_core::Disk;
 use feature_values::Schema;
 use http_session::{Message, Reader};
-use message_asks::{read_asked, size_of};
+use message_asks::{entry_of, read_asked};
 use std::alloc::Global;
 use wfs_ends::{Buffer, Clock, Link, OutOfMemory};
-use wfs_model::{AskFault, Entry, Reply, Request};
+use wfs_model::{AskFault, Reply, Request};
 use wfs_store::{StepFault, Store, stands};
 
-// The entry of a request that a message asked, of the one seat there is.
-fn entry_of(message: &Message, moment: u64, request: Request) -> Entry
-    ensures { result ≡ entry_of own_seat request message.now moment }
-{
-    Entry {
-        seat: 0,
-        moment,
-        size: size_of(message),
-        request,
-    }
-}
-
-// What is answered where a step came to this.
-fn answer_of(step: Result<Reply, StepFault>) -> Answered
+/// What is answered where a step came to this.
+pub fn answer_of(step: Result<Reply, StepFault>) -> Answered
     ensures { result ≡ answer_of step }
 {
     match step {
@@ -64,7 +51,7 @@ fn take_step<D: Disk>(
         store.new }
     ensures steps { TakesSteps D.moment D.since D.faults store.old store.new }
 {
-    answer_of(store.step(entry_of(message, moment, request)))
+    answer_of(store.step(entry_of(0, request, message, moment)))
 }
 
 // Answers a message that asked for a read.
@@ -153,7 +140,7 @@ impl<D: Disk> Service for Store<D> {
 }
 
 /// Holds one session of seat 0 over a link: each message is judged at the clock's next moment, and answered by the store. It waits for
-/// nobody. `NoMemory` comes also where there is no memory for a session; then nothing was read.
+/// nobody.
 ///
 /// Behind it the store has taken some steps of seat 0, whatever came (`becomes`); its tally has one more for each answer that was a store
 /// fault (`tallies`); and a crash at any moment since the call left what the history up to there leaves, or that with one change that was

@@ -13,12 +13,13 @@ use Rattle.session_workers.specs.declared.answered.Answered.TheVariants as answe
 use Rattle.store_turns.specs.declared.counter.Counter.{Counter}
 use Rattle.snapshot_reads.specs.declared.book.Pair.{Pair}
 use Rattle.snapshot_reads.specs.declared.viewer.Viewer.{Viewer}
+use Rattle.session_workers.specs.Solo.{answer_of}
 use Rattle.store_turns.specs.Counters.{GoesOn, IsSettled, IsViewerAt, IsViewerOf, shown_in}
 use Rattle.store_turns.specs.Knowing.{Known, RisesTo, KnowsMore, knows_same, prefix_self}
 use Rattle.store_turns.specs.Openings.{HasLegalHistory, having, tally_of, StaysOpen, IsOneOf}
 use Rattle.store_turns.specs.Published.{AreOf, FindsOne}
 use Rattle.store_turns.specs.Seats.{IsOfOpening, HasViewer, AnswersBy, ReadsInTurn}
-use Rattle.store_turns.specs.Turns.{seat_of, Finds, finding, HasOwnMore, having_left, Comes, answer_of, HasLooked, ReadsAt, Answers, by_bytes, stepped, only_read, no_memory}
+use Rattle.store_turns.specs.Turns.{seat_of, Finds, finding, HasOwnMore, having_left, Comes, HasLooked, ReadsAt, Answers, by_bytes, stepped, only_read, no_memory}
 use Rattle.turnstile_core.specs.Places.{places_of}
 use Rattle.turnstile_core.specs.Steps.{OpensAll, HasAll, grown, saw, shown_at, tallied}
 use Rattle.turnstile_core.specs.declared.kept.Kept.{Ghosts as Meaning}

@@ -6,6 +6,7 @@ use Rattle.message_asks.specs.Asks.{asked}
 use Rattle.message_asks.specs.Verdicts.{entry_of}
 use Rattle.session_workers.specs.declared.answered.Answered.{Answered}
 use Rattle.session_workers.specs.declared.answered.Answered.TheVariants as answered
+use Rattle.session_workers.specs.Solo.{answer_of}
 use Rattle.snapshot_reads.specs.declared.book.Pair.{Pair}
 use Rattle.store_turns.specs.Openings.{having, tally_of}
 use Rattle.store_turns.specs.Published.{AreOf, FindsOne}
@@ -61,13 +62,6 @@ module _ {T : Type 0} where
   Comes held p entry (Err fault.StoreFault) shown q = (full_for held entry ≡ None) × (change_by held entry ≢ None) × (q ≡ tallied (finding p held.entries shown) (risen p.tally))
   Comes held p entry (Err (fault.Full at)) shown q = (full_for held entry ≡ Some at) × (q ≡ finding p held.entries shown)
   Comes held p entry (Err fault.OutOfMemory) shown q = q ≡ finding p held.entries shown
-
--- what is answered where a step came to this
-abbrev pub answer_of : Result Reply StepFault → Answered
-answer_of (Ok reply) = answered.Reply reply
-answer_of (Err fault.StoreFault) = answered.StoreFault
-answer_of (Err (fault.Full at)) = answered.Full
-answer_of (Err fault.OutOfMemory) = answered.OutOfMemory
 
 -- the seat has looked at how many entries are shown, or has not
 abbrev pub HasLooked : {T : Type 0} → Past T Entry → Past T Entry → Type 0

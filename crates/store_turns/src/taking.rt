@@ -4,13 +4,12 @@ ghost use Rattle.std.specs.Prelude.{◌≡◌, ◌≤◌, All, Ok, Err};
 ghost use mathlib.Core.List.{IsPrefix};
 ghost use Rattle.feature_values.specs.declared.schema.Schema.{Schema as SchemaFacts};
 ghost use Rattle.message_asks.specs.Asks.{asked};
-ghost use Rattle.message_asks.specs.Verdicts.{entry_of};
 ghost use Rattle.query_docs.specs.Reading.{IsKeptText};
 ghost use Rattle.store_turns.specs.Counters.{IsViewerAt, IsViewerOf, Owes, shown_in};
 ghost use Rattle.store_turns.specs.Knowing.{KnowsMore};
 ghost use Rattle.store_turns.specs.Published.{AreOf, pairs_of};
 ghost use Rattle.store_turns.specs.Seats.{AnswersBy, HasViewer, IsOfOpening, ReadsInTurn};
-ghost use Rattle.store_turns.specs.Turns.{HasOwnMore, answer_of, having_left};
+ghost use Rattle.store_turns.specs.Turns.{HasOwnMore, having_left};
 ghost use Rattle.turnstile_core.specs.Seats.{name_of, turnstile_of, past, FoundTallies, HasOpeningOf, IsFree};
 ghost use Rattle.wfs_model.specs.Changing.{IsChange};
 ghost use Rattle.wfs_model.specs.OfSchema.{IsOfSchema, stored_in};
@@ -21,38 +20,14 @@ use crate::viewing::look_up_published;
 use disk_core::Disk;
 use feature_values::Schema;
 use http_session::Message;
-use message_asks::size_of;
-use session_workers::{Answered, Gate, GatePoint};
+use message_asks::entry_of;
+use session_workers::{Answered, Gate, GatePoint, answer_of};
 use snapshot_reads::Viewer;
 use std::alloc::Global;
 use std::sync::Wait;
 use turnstile_core::{Seat, Turn, Turnstile};
 use wfs_ends::OutOfMemory;
-use wfs_model::{Entry, Request};
-use wfs_store::StepFault;
-
-// The entry of a request that a message of a seat asked.
-fn entry_of(seat: u32, request: Request, message: &Message, moment: u64) -> Entry
-    ensures { result ≡ entry_of seat request message.now moment }
-{
-    Entry {
-        seat,
-        moment,
-        size: size_of(message),
-        request,
-    }
-}
-
-// What is answered where a step came to a fault.
-fn answer_of(fault: StepFault) -> Answered
-    ensures { result ≡ answer_of (Err fault) }
-{
-    match fault {
-        StepFault::StoreFault => Answered::StoreFault,
-        StepFault::Full(_) => Answered::Full,
-        StepFault::OutOfMemory => Answered::OutOfMemory,
-    }
-}
+use wfs_model::Request;
 
 /// Carries out what a message asked: a step of the store in a turn of the seat where it may change something, else a read.
 pub(crate) fn carry_out<R: Wait, D: Disk, G: Gate>(
@@ -136,7 +111,7 @@ fn take_step<R: Wait, D: Disk, G: Gate>(
         Err(fault) => {
             turn.value.meet(rt, viewer);
             desk.pass_on(seat, turn);
-            answer_of(fault)
+            answer_of(Err(fault))
         }
     }
 }

@@ -7,6 +7,7 @@ use Rattle.feature_journal.specs.Faults.{NoneFell, OneRose}
 use Rattle.message_asks.specs.Verdicts.{Served, Grows, IsEntryOf, with_entry}
 use Rattle.message_asks.proofs.Growing.{grows_none, grows_both, legal_still, own_still}
 use Rattle.std.proofs.lemmas.List.Elements.{All-nil, All-cons}
+use Rattle.session_workers.specs.Solo.{own_seat, served_of}
 use Rattle.wfs_model.specs.declared.change.Change.{Change}
 use Rattle.wfs_model.specs.declared.entry.Entry.{Entry}
 use Rattle.wfs_model.specs.declared.reply.Reply.{Reply}
@@ -17,7 +18,7 @@ use Rattle.wfs_store.specs.declared.fault.StepFault.TheVariants.{StoreFault, Ful
 use Rattle.wfs_store.specs.Held.{Held, now_of}
 use Rattle.wfs_store.specs.Stepped.{IsStepOf, taken_up, change_by}
 use Rattle.wfs_store.specs.Written.{begun_after}
-use Rattle.wfsd_commands.specs.Becoming.{the_seat, history_of, RestsUnless, GoesOn, IsLegalStore, HasOwnEntries, Stands, IsLeft}
+use Rattle.wfsd_commands.specs.Becoming.{RestsUnless, GoesOn, IsLegalStore, HasOwnEntries, Stands, IsLeft}
 
 -- ---- counts of failures
 
@@ -49,7 +50,7 @@ module _ {D : Type 0} (faults : D → ℕ) where
   pub goes_none : (store : Held D) → GoesOn faults store store
   goes_none store = record {
     opening = record { schema = refl; limits = refl; opening = refl; side = refl; current = refl };
-    grows = grows_none the_seat (history_of store);
+    grows = grows_none own_seat (served_of store);
     begun = λ none. inl none;
     count = (omega arith, omega arith);
   }
@@ -63,17 +64,17 @@ module _ {D : Type 0} (faults : D → ℕ) where
       side = h.opening.side ∙ g.opening.side;
       current = h.opening.current ∙ g.opening.current;
     };
-    grows = grows_both the_seat (history_of a) (history_of b) (history_of c) g.grows h.grows;
+    grows = grows_both own_seat (served_of a) (served_of b) (served_of c) g.grows h.grows;
     begun = λ none. rests_then faults a.disks b.disks b.begun c.begun c.disks (g.begun none) h.begun g.count h.count;
     count = fell_both faults a.disks b.disks c.disks g.count h.count;
   }
 
   -- the history is this, where its parts are
-  history_is : (held : Held D) (served : Served) → held.schema ≡ served.schema → held.opening ≡ served.opening → held.entries ≡ served.entries → history_of held ≡ served
+  history_is : (held : Held D) (served : Served) → held.schema ≡ served.schema → held.opening ≡ served.opening → held.entries ≡ served.entries → served_of held ≡ served
   history_is held served schema opening entries = rw (schema, opening, entries) refl
 
-  module _ (moment : D → ℕ) (since : D → ℕ → List ℕ → Type 0) (old new : Held D) (entry : Entry) (own : entry.seat ≡ the_seat) (change : IsChange entry.request) (fitting : IsOfSchema old.schema entry.request) where
-    entered : Grows the_seat (history_of old) (with_entry (history_of old) (taken_up old entry))
+  module _ (moment : D → ℕ) (since : D → ℕ → List ℕ → Type 0) (old new : Held D) (entry : Entry) (own : entry.seat ≡ own_seat) (change : IsChange entry.request) (fitting : IsOfSchema old.schema entry.request) where
+    entered : Grows own_seat (served_of old) (with_entry (served_of old) (taken_up old entry))
     entered =
         let later : (now_of old).last ≤ (taken_up old entry).moment = omega arith in
         record {
@@ -82,12 +83,12 @@ module _ {D : Type 0} (faults : D → ℕ) where
           more = taken_up old entry ∷ [];
           entries = refl;
           legal = (change, later, tt);
-          own = All-cons (IsEntryOf the_seat old.schema) (taken_up old entry) [] (record { own = own; fitting = fitting }) (All-nil (IsEntryOf the_seat old.schema));
+          own = All-cons (IsEntryOf own_seat old.schema) (taken_up old entry) [] (record { own = own; fitting = fitting }) (All-nil (IsEntryOf own_seat old.schema));
         }
 
-    step_grows : (result : Result Reply StepFault) → IsStepOf moment since faults old entry result new → Grows the_seat (history_of old) (history_of new)
-    step_grows (Ok reply) is = rw (history_is new (with_entry (history_of old) (taken_up old entry)) is.opening.schema is.opening.opening is.entered.0) entered
-    step_grows (Err fault) is = rw (history_is new (history_of old) is.opening.schema is.opening.opening is.entered) (grows_none the_seat (history_of old))
+    step_grows : (result : Result Reply StepFault) → IsStepOf moment since faults old entry result new → Grows own_seat (served_of old) (served_of new)
+    step_grows (Ok reply) is = rw (history_is new (with_entry (served_of old) (taken_up old entry)) is.opening.schema is.opening.opening is.entered.0) entered
+    step_grows (Err fault) is = rw (history_is new (served_of old) is.opening.schema is.opening.opening is.entered) (grows_none own_seat (served_of old))
 
     after_none : (made begun : Option Change) → begun ≡ None → begun_after made begun ≡ None
     after_none None begun none = none
@@ -109,15 +110,15 @@ module _ {D : Type 0} (mean : DiskMeaning D) where
   -- a store that had no history, and at which nothing was begun
   pub left_behind : (first store : Held D) → first.entries ≡ [] → first.begun ≡ None → GoesOn mean.faults first store → Stands mean store → IsLeft mean first.disks store
   left_behind first store none begun goes stands = record {
-    legal = legal_still the_seat (history_of first) (history_of store) (no_entries first none).0 goes.grows;
-    own = own_still the_seat (history_of first) (history_of store) (no_entries first none).1 goes.grows;
+    legal = legal_still own_seat (served_of first) (served_of store) (no_entries first none).0 goes.grows;
+    own = own_still own_seat (served_of first) (served_of store) (no_entries first none).1 goes.grows;
     stands = stands;
     rests = goes.begun begun;
     count = goes.count;
   }
     where
       no_entries : (s : Held D) → s.entries ≡ [] → IsLegalStore s × HasOwnEntries s
-      no_entries s none = rw none (tt, All-nil (IsEntryOf the_seat s.schema))
+      no_entries s none = rw none (tt, All-nil (IsEntryOf own_seat s.schema))
 
   -- the same, since the disks were as they were before the start
   since_before : (disks mid : Pair D) (store : Held D) → NoneFell mean.faults disks mid → IsLeft mean mid store → IsLeft mean disks store

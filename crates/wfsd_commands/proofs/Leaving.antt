@@ -8,13 +8,14 @@ use Rattle.durable_journal.specs.declared.looking.Counts.{Counts}
 use Rattle.feature_values.specs.declared.schema.Schema.{Schema}
 use Rattle.message_asks.specs.Verdicts.{IsEntryOf}
 use Rattle.program_lines.specs.Lines.{GivesOr, sides_line}
+use Rattle.session_workers.specs.Solo.{own_seat}
 use Rattle.wfs_ends.specs.Ends.{Shown}
 use Rattle.wfs_store.specs.declared.fault.StepFault.{StepFault}
 use Rattle.wfs_store.specs.declared.fault.StepFault.TheVariants.{StoreFault, Full, OutOfMemory}
 use Rattle.wfs_store.specs.Compacted.{IsCompactionOf, IsEnded}
 use Rattle.wfs_store.specs.Held.{Held}
 use Rattle.wfsd_commands.specs.declared.done.Done.{Done}
-use Rattle.wfsd_commands.specs.Becoming.{the_seat, IsLegalStore, HasOwnEntries, RestsUnless, Stands, IsLeft}
+use Rattle.wfsd_commands.specs.Becoming.{IsLegalStore, HasOwnEntries, RestsUnless, Stands, IsLeft}
 use Rattle.wfsd_commands.specs.Commands.{side_of, Shortened, Unshortened, Shortens, shortened, unshortened}
 use Rattle.wfsd_commands.specs.Early.{EndsSaying}
 use Rattle.wfsd_commands.specs.Left.{LeavesDisks, LeavesStore}
@@ -57,7 +58,7 @@ module _ {D : Type 0} (mean : DiskMeaning D) (first store : Held D) where
   ended (Err OutOfMemory) is none = inl is
 
   no_entries : store.entries ≡ [] → IsLegalStore store × HasOwnEntries store
-  no_entries none = rw none (tt, All-nil (IsEntryOf the_seat store.schema))
+  no_entries none = rw none (tt, All-nil (IsEntryOf own_seat store.schema))
 
   pub compacted_left : (result : Result (Unit {0}) StepFault) → IsCompactionOf mean.moment mean.since mean.images mean.faults first result store → first.entries ≡ [] → first.begun ≡ None → Stands mean store → IsLeft mean first.disks store
   compacted_left result is none begun stands =

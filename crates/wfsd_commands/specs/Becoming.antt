@@ -5,18 +5,11 @@ use Rattle.disk_core.specs.declared.disk.Disk.{Ghosts as DiskMeaning}
 use Rattle.disk_core.specs.declared.pair.Pair.{Pair}
 use Rattle.durable_journal.specs.Standing.{SaysWith}
 use Rattle.feature_journal.specs.Faults.{NoneFell, OneRose}
-use Rattle.message_asks.specs.Verdicts.{Served, Grows, HasLegalHistory, HasEntriesOf}
+use Rattle.message_asks.specs.Verdicts.{Grows, HasLegalHistory, HasEntriesOf}
+use Rattle.session_workers.specs.Solo.{own_seat, served_of}
 use Rattle.wfs_model.specs.declared.change.Change.{Change}
 use Rattle.wfs_store.specs.Held.{Held, kept_of}
 use Rattle.wfs_store.specs.Stepped.{SameOpening}
-
--- the number of the one seat that there is
-abbrev pub the_seat : ℕ
-the_seat = 0
-
--- the history of a store
-abbrev pub history_of : {D : Type 0} → Held D → Served
-history_of store = record { schema = store.schema; opening = store.opening; entries = store.entries }
 
 -- nothing is begun, unless a disk failed
 abbrev pub RestsUnless : {D : Type 0} (faults : D → ℕ) → Pair D → Option Change → Pair D → Type 0
@@ -26,7 +19,7 @@ RestsUnless faults old begun new = (begun ≡ None) ⊎ OneRose faults old new
 -- unless something was or a disk failed; and no count of failures fell.
 pub record GoesOn {D : Type 0} (faults : D → ℕ) (old new : Held D) : Type 0 where
   pub opening : SameOpening old new
-  pub grows : Grows the_seat (history_of old) (history_of new)
+  pub grows : Grows own_seat (served_of old) (served_of new)
   pub begun : old.begun ≡ None → RestsUnless faults old.disks new.begun new.disks
   pub count : NoneFell faults old.disks new.disks
 
@@ -38,11 +31,11 @@ Stands mean store = EveryBoth mean.images (SaysWith store.schema (kept_of store)
 
 -- its history is legal
 abbrev pub IsLegalStore : {D : Type 0} → Held D → Type 0
-IsLegalStore store = HasLegalHistory (history_of store)
+IsLegalStore store = HasLegalHistory (served_of store)
 
 -- each entry is of the one seat, and its request is such as the schema allows
 abbrev pub HasOwnEntries : {D : Type 0} → Held D → Type 0
-HasOwnEntries store = HasEntriesOf the_seat (history_of store)
+HasOwnEntries store = HasEntriesOf own_seat (served_of store)
 
 -- nothing is begun, unless a disk failed since the command had these disks
 abbrev pub RestsSince : {D : Type 0} (faults : D → ℕ) → Pair D → Held D → Type 0

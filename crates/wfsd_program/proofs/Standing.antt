@@ -7,12 +7,13 @@ use Rattle.disk_core.specs.declared.disk.Disk.{Ghosts as DiskMeaning}
 use Rattle.disk_core.specs.declared.pair.Pair.{Pair}
 use Rattle.feature_journal.specs.Faults.{NoneFell, OneRose}
 use Rattle.message_asks.specs.Verdicts.{IsEntryOf}
+use Rattle.session_workers.specs.Solo.{own_seat}
 use Rattle.store_turns.specs.Openings.{HasLegalHistory, StaysOpen}
 use Rattle.wfs_ends.specs.Ends.{Rose, risen}
 use Rattle.wfs_model.specs.declared.change.Change.{Change}
 use Rattle.wfs_model.specs.OfSchema.{IsOfSchema}
 use Rattle.wfs_store.specs.Held.{Held}
-use Rattle.wfsd_commands.specs.Becoming.{the_seat, RestsUnless, Stands, IsLeft}
+use Rattle.wfsd_commands.specs.Becoming.{RestsUnless, Stands, IsLeft}
 use Rattle.wfsd_commands.proofs.Becomes.{then_rose}
 use Rattle.wfsd_commands.specs.declared.done.Done.{Done}
 use Rattle.wfsd_commands.specs.Left.{LeavesStore}
@@ -36,7 +37,7 @@ module _ {D : Type 0} (mean : DiskMeaning D) where
   pub left_alone : (disks : Pair D) (left : Option (Held D)) → IfSome left (IsLeft mean disks) → IfSome left (IsLeftStanding mean disks)
   left_alone disks None is = tt
   left_alone disks (Some store) is = record {
-    legal = record { legal = is.legal; fitting = All-weaker (IsEntryOf the_seat store.schema) (λ entry. IsOfSchema store.schema entry.request) (λ entry of. of.fitting) store.entries is.own };
+    legal = record { legal = is.legal; fitting = All-weaker (IsEntryOf own_seat store.schema) (λ entry. IsOfSchema store.schema entry.request) (λ entry of. of.fitting) store.entries is.own };
     stands = is.stands;
     rests = is.rests;
     count = is.count;
