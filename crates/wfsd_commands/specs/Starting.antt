@@ -6,6 +6,7 @@ use Rattle.durable_journal.specs.declared.fault.OpenFault.{OpenFault}
 use Rattle.durable_journal.specs.declared.fault.OpenFault.TheVariants.{DiskFault}
 use Rattle.durable_journal.specs.Current.{HoldsSome}
 use Rattle.durable_journal.specs.Opened.{IsOfBytes, IsRefusal}
+use Rattle.durable_journal.specs.OpenedSide.{IsOpenedSide}
 use Rattle.durable_journal.specs.Standing.{ComeTo, SaysOpened}
 use Rattle.feature_journal.specs.Faults.{NoneFell, OneRose}
 use Rattle.feature_journal.specs.Nothing.{Nothing, Unmade}
@@ -59,12 +60,14 @@ pub record OpensSafely {D : Type 0} (mean : DiskMeaning D) (schema : Schema) (ol
   pub count : NoneFell mean.faults old new
 
 -- A store was started: its opening is the next one of what the two files come to, and it has no history. Its disks hold a list on the side that it
--- counts as the current one, with its generation.
+-- counts as the current one, with its generation. Where both tell, which side that is, how long it is and what it holds follow from what the two
+-- files come to, so a store whose journal was made shorter since then is none that was started.
 pub record IsStarted {D : Type 0} (mean : DiskMeaning D) (schema : Schema) (old : Pair D) (store : Held D) : Type 0 where
   pub limits : AreStated store.limits
   pub begun : HasBegun schema store.limits store
   pub opens : OfShown mean old (λ a b. OpensOn schema (outcome_on schema a b) store.opening)
   pub current : HoldsSome mean.images store.current store.disks
+  pub side : OfShown mean old (λ a b. IsOpenedSide mean.images schema (outcome_on schema a b) store.current store.side store.disks)
   pub safely : OpensSafely mean schema old store.disks
 
 -- A store was not started: a refusal of the bytes is the first that they meet, and nothing was written; a disk's fault has its cause.
