@@ -1,8 +1,9 @@
 //! A store is closed, and started again on its disks.
 
-ghost use Rattle.std.specs.Prelude.{◌≡◌, IfOk};
+ghost use Rattle.std.specs.Prelude.{◌≡◌, IfErr, IfOk};
 ghost use Rattle.feature_schema.specs.Rules.{KeepsRules};
 ghost use Rattle.wfsd_commands.specs.Restarted.{OpensAgain};
+ghost use Rattle.wfsd_commands.specs.Starting.{IsNotStarted, IsStarted};
 
 use crate::starting::start_store;
 use disk_core::{Disk, Pair};
@@ -15,7 +16,7 @@ use wfs_store::{OpenFault, Store, stands};
 ///
 /// # Errors
 ///
-/// As `Store::start` answers.
+/// As `start_store` answers, with the disks.
 pub fn start_again<D: Disk>(
     alloc: Global,
     store: Store<D>,
@@ -23,7 +24,9 @@ pub fn start_again<D: Disk>(
 ) -> Result<Store<D>, (Pair<D>, OpenFault)>
     requires schema { store.schema ≡ schema.now }
     requires rules { KeepsRules schema.now }
-    ensures { IfOk result (OpensAgain D.Disk store) }
+    ensures again { IfOk result (OpensAgain D.Disk store) }
+    ensures started { IfOk result (IsStarted D.Disk schema.now store.disks) }
+    ensures refused { IfErr result (λ e. IsNotStarted D.Disk schema.now store.disks e.1 e.0) }
 {
     stands(&store);
     start_store(alloc, store.close(), schema)
