@@ -4,29 +4,35 @@
 //! `wfsd_program`.
 #![tactic(auto)]
 
+ghost use Rattle.std.specs.Prelude.{◌≡◌};
+ghost use Rattle.program_lines.specs.Lines.{GivesOr, no_memory};
+
 use disk_core::{Disk, FileDisk, Pair};
+use program_lines::say;
 use service_doors::{Acceptor, Doors, TcpDoors};
 use std::alloc::Global;
 use std::env;
+use std::io::ErrorKind;
 use std::process::ExitCode;
 use std::sync::Wait;
 use std::thread::Threads;
 use wfs_ends::{
-    Clock, InputFile, Mem, ReadEnd, RealClock, Sink, Source, StandardInput, StandardOutput, Text,
-    WriteEnd,
+    Clock, InputFile, Mem, OutOfMemory, ReadEnd, RealClock, Sink, Source, StandardInput,
+    StandardOutput, Text, WriteEnd,
 };
 use wfs_words::directory;
 use wfsd_commands::OUT_OF_MEMORY;
 use wfsd_program::wfsd;
 
-/// Makes the real ends, and leaves the rest to `wfsd`.
+/// Makes the real ends, and leaves the rest to `wfsd`. Where memory runs out before that, one line says so.
 fn main(rt: HostRuntime) -> ExitCode {
     let alloc = rt.alloc();
+    let mut out = WriteEnd::of(StandardOutput::of(&rt));
     let Ok(words) = words_given(&rt, alloc) else {
-        return ExitCode::from(OUT_OF_MEMORY);
+        return ExitCode::from(say_no_memory(&mut out));
     };
     let Ok(paths) = paths_in(alloc, directory(&words)) else {
-        return ExitCode::from(OUT_OF_MEMORY);
+        return ExitCode::from(say_no_memory(&mut out));
     };
     let Paths {
         schema,
@@ -43,20 +49,33 @@ fn main(rt: HostRuntime) -> ExitCode {
         &words,
         &mut ReadEnd::of(InputFile::of(&rt, schema)),
         &mut ReadEnd::of(StandardInput::of(&rt)),
-        &mut WriteEnd::of(StandardOutput::of(&rt)),
+        &mut out,
         disks,
         &mut TcpDoors::of(&rt),
         &mut RealClock::of(&rt),
     ))
 }
 
+// Says that memory ran out, and answers the status. A fault of the output changes nothing.
+fn say_no_memory<O: Sink>(out: &mut O) -> u8
+    ensures says { GivesOr (O.sink out.old) no_memory (O.sink out.new) }
+    ensures status { result ≡ 8 }
+{
+    say(out, b"wfsd: no memory\n");
+    OUT_OF_MEMORY
+}
+
 // The words that follow the program's name. Words that are no text are as none.
 fn words_given(rt: &HostRuntime, alloc: Global) -> Mem<Vec<String>> {
     let mut words = Vec::new(alloc);
-    if let Ok(all) = env::args(rt) {
-        for word in all.skip(1) {
-            words.push(word)?;
+    match env::args(rt) {
+        Ok(all) => {
+            for word in all.skip(1) {
+                words.push(word)?;
+            }
         }
+        Err(error) if error.kind() == ErrorKind::OutOfMemory => return Err(OutOfMemory),
+        Err(_) => {}
     }
     Ok(words)
 }
