@@ -1,15 +1,16 @@
 -- A worker, link by link.
-use Rattle.std.proofs.Common.{◌≡◌, ℕ, ◌+◌, ◌-◌, ◌<◌, ◌≤◌, List, [], ◌∷◌, ◌++◌, length, Option, Some, None, refl, ap, sym, subst, ◌∙◌, append_assoc, length-append, arith}
+use Rattle.std.proofs.Common.{◌≡◌, ℕ, ◌+◌, ◌-◌, ◌<◌, ◌≤◌, true, List, [], ◌∷◌, ◌++◌, length, Option, Some, None, inl, inr, refl, ap, sym, subst, ◌∙◌, append_assoc, length-append, arith}
 use Rattle.std.specs.Prelude.{map, Result, Ok, Err, IfSome}
 use Rattle.std.proofs.lemmas.List.{append-nil, map-append}
-use Rattle.wfs_ends.specs.Ends.{Shown, Rose, last_count, capped, risen}
+use Rattle.wfs_ends.specs.Ends.{Shown, Gives, Rose, last_count, capped, risen}
 use Rattle.wfs_ends.specs.declared.fault.OutOfMemory.{OutOfMemory}
+use Rattle.reply_documents.specs.Refusals.{fixed_text}
 use Rattle.service_doors.specs.Accepting.{Accepting, HandsOut, HasNoLink, HasFailed, led_by, followed_by, with_finished}
 use Rattle.session_workers.specs.declared.ending.SessionEnd.{SessionEnd}
 use Rattle.session_workers.specs.declared.service.Service.{Ghosts as Meaning}
 use Rattle.session_workers.specs.Session.{Becomes}
 use Rattle.service_workers.specs.declared.ending.WorkerEnd.TheVariants as end
-use Rattle.service_workers.specs.Working.{Stand, Visit, IsVisit, Visits, none, one_more, all_led_by, all_followed_by, Passes, most_links, IsWorked, Serves}
+use Rattle.service_workers.specs.Working.{Stand, Visit, SaysNoMemory, IsVisit, Visits, none, one_more, all_led_by, all_followed_by, Passes, most_links, IsWorked, Serves}
 
 -- ---- the acceptor
 
@@ -69,6 +70,13 @@ passes_still old mid new vs p e = record {
   out = λ few. ap (λ (a : Accepting). a.out) e ∙ p.out few;
   finished = λ few. ap (λ (a : Accepting). a.finished) e ∙ p.finished few;
 }
+
+-- ---- a link without a session
+
+-- the refusal was given, whole or in part
+pub said_so : {E : Type 0} (r : Result (Unit {0}) E) (before after : Shown) → Gives r before (fixed_text 27 true) after → SaysNoMemory before after
+said_so (Ok _) before after g = inl g
+said_so (Err _) before after g = inr g
 
 -- ---- between two links
 

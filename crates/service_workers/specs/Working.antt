@@ -1,7 +1,8 @@
 -- What a worker does: one link after the other is handed out, a session is held over it, and it is finished.
-use Rattle.std.specs.Prelude.{◌≡◌, ℕ, ◌+◌, ◌<◌, ◌≤◌, List, [], ◌∷◌, ◌++◌, length, map, Option, Some, None, Result, Ok, Err}
-use Rattle.wfs_ends.specs.Ends.{Shown, Rose, last_count, capped}
+use Rattle.std.specs.Prelude.{◌≡◌, ℕ, ◌+◌, ◌<◌, ◌≤◌, true, List, [], ◌∷◌, ◌++◌, length, map, Option, Some, None, Result, Ok, Err, ◌⊎◌}
+use Rattle.wfs_ends.specs.Ends.{Shown, GivesAll, GivesFront, Rose, last_count, capped}
 use Rattle.wfs_ends.specs.declared.fault.OutOfMemory.{OutOfMemory}
+use Rattle.reply_documents.specs.Refusals.{fixed_text}
 use Rattle.service_doors.specs.Accepting.{Accepting, HandsOut, HasNoLink, HasFailed, with_finished}
 use Rattle.session_workers.specs.declared.ending.SessionEnd.{SessionEnd}
 use Rattle.session_workers.specs.declared.service.Service.{Ghosts as Meaning}
@@ -26,10 +27,15 @@ pub record Visit : Type 0 where
   pub end : Result SessionEnd OutOfMemory
   pub after : Shown
 
--- A session was held over a link, or there was no memory for one: then the link was not touched, nor the service or the clock.
+-- That there is no memory was said: the refusal 27, which closes a session, was given, or a front of it and then the output failed. Nothing
+-- was taken of the input.
+abbrev pub SaysNoMemory : Shown → Shown → Type 0
+SaysNoMemory before after = GivesAll before (fixed_text 27 true) after ⊎ GivesFront before (fixed_text 27 true) after
+
+-- A session was held over a link, or there was no memory for one: then that was said, and the service and the clock were not touched.
 abbrev pub IsVisit : {S : Type 0} → Meaning S → Stand S → Shown → Result SessionEnd OutOfMemory → Shown → Stand S → Type 0
 IsVisit mean p before (Ok e) after q = IsSession mean p.moments p.service before e q.service q.moments after
-IsVisit mean p before (Err fault) after q = (after ≡ before) × (q ≡ p)
+IsVisit mean p before (Err fault) after q = SaysNoMemory before after × (q ≡ p)
 
 -- some links were visited, each from where the one before it left the service and the clock
 pub data Visits {S : Type 0} (mean : Meaning S) (p : Stand S) : List Visit → Stand S → Type 0 where

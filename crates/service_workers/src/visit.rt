@@ -1,12 +1,13 @@
 //! One link of a worker: it is handed out, a session is held over it, and it is finished.
 
-ghost use Rattle.service_workers.specs.Working.{IsVisit, IsNext, stand};
+ghost use Rattle.service_workers.specs.Working.{IsVisit, IsNext, SaysNoMemory, stand};
 
 use http_session::Reader;
+use reply_documents::put_fixed;
 use service_doors::Acceptor;
 use session_workers::{Gate, Service, SessionEnd, session};
 use std::alloc::Global;
-use wfs_ends::{Buffer, Clock, Failed, Link, Mem};
+use wfs_ends::{Buffer, Clock, Failed, Link, Mem, OutOfMemory, Sink};
 
 /// What came next of a worker.
 #[derive(Drop)]
@@ -41,7 +42,7 @@ pub fn serve_next<S: Service, A: Acceptor, C: Clock, G: Gate>(
     }
 }
 
-// Takes the memory of a session, and holds one over the link. Where there is no memory, the link is not read.
+// Takes the memory of a session, and holds one over the link. Where there is none, that is said, and the link is not read.
 fn visit<S: Service, L: Link, C: Clock, G: Gate>(
     alloc: Global,
     service: &mut S,
@@ -52,7 +53,17 @@ fn visit<S: Service, L: Link, C: Clock, G: Gate>(
     ensures { IsVisit S.Service (stand service.old (C.moments clock.old)) (L.Source.source link.old)
         result (L.Source.source link.new) (stand service.new (C.moments clock.new)) }
 {
-    let mut reader = Reader::new(alloc)?;
-    let mut buffer = Buffer::new(alloc)?;
+    let (Ok(mut reader), Ok(mut buffer)) = (Reader::new(alloc), Buffer::new(alloc)) else {
+        say_no_memory(link);
+        return Err(OutOfMemory);
+    };
     Ok(session(alloc, service, link, clock, gate, &mut reader, &mut buffer))
+}
+
+// Says that there is no memory for a session, which takes none: piece by piece, since there is no buffer.
+#[tactic(auto, using(crate::proofs::Links::said_so))]
+fn say_no_memory<O: Sink>(sink: &mut O)
+    ensures { SaysNoMemory (O.sink sink.old) (O.sink sink.new) }
+{
+    let _given = put_fixed(27, true, sink);
 }

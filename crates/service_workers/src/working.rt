@@ -13,9 +13,9 @@ use wfs_ends::Clock;
 /// Takes one link after the other from the acceptor, holds a session over each, and finishes it, whatever its session came
 /// to. It ends behind so many links as `limit` says, or where no link is left or the acceptor fails.
 ///
-/// The memory of a session is taken when the link is there. Where there is none, the link is finished as it came, and the
-/// next one is taken. `AcceptFault` comes only where the acceptor counted a failure. A worker without a limit has one all
-/// the same, which no run reaches: the last u64.
+/// The memory of a session is taken when the link is there. Where there is none, the link is not read: it is given the
+/// refusal for want of memory and finished, and the next one is taken. `AcceptFault` comes only where the acceptor counted
+/// a failure. A worker without a limit has one all the same, which no run reaches: the last u64.
 pub fn work<S: Service, A: Acceptor, C: Clock, G: Gate>(
     alloc: Global,
     service: &mut S,
