@@ -103,12 +103,15 @@ module _ {D : Type 0} (moment : D → ℕ) (since : D → ℕ → List ℕ → T
 
   -- ---- what was taken up
 
-  module _ (ready : Ready) (copy : Option Change) (taken : IsTaken entry ready copy old) where
+  module _ (ready : Ready) (taken : IsTaken entry ready old) where
+    abbrev copy : Option Change
+    copy = ready.made
+
     moment_is : ready.moment ≡ (taken_up was entry).moment
     moment_is = taken.moment ∙ ap (λ (s : State). moment_in s entry.moment) now_is
 
     copy_made : copy ≡ change_of old.state.schema old.state.state ready.moment entry.request
-    copy_made = taken.copy_is ∙ taken.plan.change
+    copy_made = taken.made_is ∙ taken.plan.change
 
     copy_by : copy ≡ change_by was entry
     copy_by = copy_made ∙ ap (λ (s : State). change_of old.state.schema s ready.moment entry.request) now_is
@@ -174,7 +177,7 @@ module _ {D : Type 0} (moment : D → ℕ) (since : D → ℕ → List ℕ → T
         → IfSome copy (IsWritable old.state.schema (durable old.state.state) (length_of before) old.limits.side body)
     writable_copy told items body said shown spelled =
         let writable = subst (λ (b : List ℕ). IfSome ready.plan.change (IsWritable old.state.schema (durable old.state.state) told old.limits.side b)) (sym shown) spelled in
-        subst (λ (made : Option Change). IfSome made (IsWritable old.state.schema (durable old.state.state) (length_of before) old.limits.side body)) (sym taken.copy_is)
+        subst (λ (made : Option Change). IfSome made (IsWritable old.state.schema (durable old.state.state) (length_of before) old.limits.side body)) (sym taken.made_is)
         (subst (λ (n : ℕ). IfSome ready.plan.change (IsWritable old.state.schema (durable old.state.state) n old.limits.side body)) said writable)
 
     pub writable_there : (body : List ℕ) → IfSome copy (IsWritable old.state.schema (durable old.state.state) (length_of before) old.limits.side body)
@@ -217,7 +220,7 @@ module _ {D : Type 0} (moment : D → ℕ) (since : D → ℕ → List ℕ → T
         ∙ ap (λ (s : State). (step old.state.schema s ready.moment entry.request).1) same.state in
         let kept_is : durable new.state.state ≡ played (durable old.state.state) (option_to_list copy) =
         ap durable state_is ∙ kept_after old.state.schema old.state.state ready.moment entry.request ready.plan taken.plan
-        ∙ ap (λ (c : Option Change). played (durable old.state.state) (option_to_list c)) (sym taken.copy_is) in
+        ∙ ap (λ (c : Option Change). played (durable old.state.state) (option_to_list c)) (sym taken.made_is) in
         let entries_is : new.history.items ≡ old.history.items ++ taken_up was entry ∷ [] =
         entries ∙ ap (λ (l : List Entry). l ++ record entry { moment = ready.moment } ∷ []) same.entries ∙ ap (λ (e : Entry). old.history.items ++ e ∷ []) taken_is in
         let longer : longer_by copy body ≡ added_by (body_length old.state.schema) (option_to_list (change_by was entry)) =

@@ -1,5 +1,5 @@
 -- What is at hand before a disk is asked: all that a step needs.
-use Rattle.std.specs.Prelude.{◌≡◌, ℕ, ◌+◌, ◌<◌, ◌≤◌, List, length, Option}
+use Rattle.std.specs.Prelude.{◌≡◌, ℕ, ◌+◌, ◌<◌, ◌≤◌, List, length}
 use Rattle.std.specs.Vec.{vec_len, vec_capacity}
 use Rattle.durable_journal.specs.Recorded.{MayAppend}
 use Rattle.feature_values.specs.declared.schema.Schema.{Schema}
@@ -35,10 +35,10 @@ pub record IsWritable (schema : Schema) (kept : Durable) (side limit : ℕ) (bod
   pub fits : side + 5 + length body ≤ limit
 
 -- What is taken up of an entry: its moment, its plan, and a copy of the change that it makes.
-pub record IsTaken (entry : Entry) (ready : Ready) (copy : Option Change) (course : Course) : Type 0 where
+pub record IsTaken (entry : Entry) (ready : Ready) (course : Course) : Type 0 where
   pub moment : ready.moment ≡ moment_in course.state.state entry.moment
   pub plan : IsPlan course.state.schema course.state.state ready.moment entry.request ready.plan
-  pub copy_is : copy ≡ ready.plan.change
+  pub made_is : ready.made ≡ ready.plan.change
 
 -- a plan of an entry is prepared for the moment at which the entry is taken up
 pub record IsPlanned (entry : Entry) (moment : ℕ) (plan : Plan) (course : Course) : Type 0 where

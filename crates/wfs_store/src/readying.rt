@@ -80,16 +80,12 @@ fn copied(alloc: Global, change: &Option<Change>) -> Mem<Option<Change>>
     }
 }
 
-/// Judges an entry by the limits, and takes all memory that it needs. The second part of the answer is a copy of its change.
+/// Judges an entry by the limits, and takes all memory that it needs.
 ///
 /// # Errors
 ///
 /// `Full` with the first limit that it would pass, and `OutOfMemory`.
-pub(crate) fn make_ready(
-    course: &mut Course,
-    side: u64,
-    entry: &Entry,
-) -> Result<(Ready, Option<Change>), StepFault>
+pub(crate) fn make_ready(course: &mut Course, side: u64, entry: &Entry) -> Result<Ready, StepFault>
     requires change { IsChange entry.now.request }
     requires fitting { IsOfSchema course.old.state.schema entry.now.request }
     requires texts { All (IsKeptText course.old.state.schema) (stored_in entry.now.request) }
@@ -100,17 +96,15 @@ pub(crate) fn make_ready(
         → Judges (full_at course.old.state.schema (body_length course.old.state.schema) start
         opening course.old.limits course.old.history.items
         (timed course.old.state.state entry.now)) result }
-    ensures ready { IfOk result (λ r. IsReady entry.now r.0 course.new) }
-    ensures written { IfOk result (λ r. IfSome r.0.plan.change
+    ensures ready { IfOk result (λ r. IsReady entry.now r course.new) }
+    ensures written { IfOk result (λ r. IfSome r.plan.change
         (IsWritable course.old.state.schema (durable course.old.state.state) side
         course.old.limits.side course.new.body.items)) }
-    ensures taken { IfOk result (λ r. IsTaken entry.now r.0 r.1 course.old) }
+    ensures taken { IfOk result (λ r. IsTaken entry.now r course.old) }
     ensures same { SamePast course.old course.new }
 {
     let (moment, plan) = judged(course, side, entry)?;
     course.history.reserve(1)?;
     let made = copied(course.alloc, &plan.change)?;
-    let copy = copied(course.alloc, &plan.change)?;
-    let ready = Ready { moment, plan, made };
-    Ok((ready, copy))
+    Ok(Ready { moment, plan, made })
 }

@@ -54,8 +54,8 @@ pub(crate) fn take_step<D: Disk>(
     // does nothing: its contract tells what the disks stand for, and still do where the step is refused
     stands(journal);
     let seat = entry.seat;
-    let (ready, copy) = make_ready(course, journal.side_length(), &entry)?;
-    match write(journal, begun, &course.body, copy) {
+    let mut ready = make_ready(course, journal.side_length(), &entry)?;
+    match write(journal, begun, &course.body, &mut ready.made) {
         Ok(()) => Ok(enter(course, entry, ready)),
         Err(_) => {
             raise(tally, seat);

@@ -19,36 +19,38 @@ use feature_journal::Journal;
 use wfs_ends::Failed;
 use wfs_model::Change;
 
-/// Writes a change by its body, where there is one, and keeps in `begun` which change a fault left begun.
+/// Writes a change by its body, where there is one, and keeps in `begun` which change a fault left begun. Only where that is this one it is
+/// taken.
 pub(crate) fn write<D: Disk>(
     journal: &mut Journal<D>,
     begun: &mut Option<Change>,
     body: &[u8],
-    change: Option<Change>,
+    change: &mut Option<Change>,
 ) -> Result<(), Failed>
     requires keeps { (schema : Schema) × (kept : Durable)
         × (Keeps D.images schema kept begun.old journal.old
-        × IfSome change (IsWritable schema kept (length_of journal.old) (limit_of journal.old)
+        × IfSome change.old (IsWritable schema kept (length_of journal.old) (limit_of journal.old)
         body.now)) }
     ensures kept { (schema : Schema) (kept : Durable)
         → Keeps D.images schema kept begun.old journal.old
-        → IfSome change (IsWritable schema kept (length_of journal.old) (limit_of journal.old)
+        → IfSome change.old (IsWritable schema kept (length_of journal.old) (limit_of journal.old)
         body.now)
-        → IsWritten D.images schema kept change result begun.new journal.new }
+        → IsWritten D.images schema kept change.old result begun.new journal.new }
     ensures goes { (schema : Schema) (kept : Durable)
         → Keeps D.images schema kept begun.old journal.old
-        → IfSome change (IsWritable schema kept (length_of journal.old) (limit_of journal.old)
+        → IfSome change.old (IsWritable schema kept (length_of journal.old) (limit_of journal.old)
         body.now)
-        → Always D.moment D.since (SaysEither schema kept begun.old change) (disks_of journal.old)
-        (disks_of journal.new) }
-    ensures done { OnOk result (begun.new ≡ begun_after change begun.old) }
-    ensures fault { OnErr result (WasLeft begun.old change begun.new) }
+        → Always D.moment D.since (SaysEither schema kept begun.old change.old)
+        (disks_of journal.old) (disks_of journal.new) }
+    ensures done { OnOk result (begun.new ≡ begun_after change.old begun.old) }
+    ensures fault { OnErr result (WasLeft begun.old change.old begun.new) }
     ensures longer { OnOk result (length_of journal.new
-        ≡ length_of journal.old + longer_by change body.now) }
+        ≡ length_of journal.old + longer_by change.old body.now) }
     ensures same { OnErr result (length_of journal.new ≡ length_of journal.old) }
     ensures limit { limit_of journal.new ≡ limit_of journal.old }
     ensures current { current_in journal.new ≡ current_in journal.old }
-    ensures unwritten { change ≡ None → (result ≡ Ok tt) × (journal.new ≡ journal.old) }
+    ensures left { OnOk result (change.new ≡ change.old) }
+    ensures unwritten { change.old ≡ None → (result ≡ Ok tt) × (journal.new ≡ journal.old) }
     ensures count { NoneFell D.faults (disks_of journal.old) (disks_of journal.new) }
     ensures cause { OnErr result (OneRose D.faults (disks_of journal.old) (disks_of journal.new)) }
 {
@@ -58,7 +60,7 @@ pub(crate) fn write<D: Disk>(
             stands(journal);
             Ok(())
         }
-        Some(change) => match record_change(journal, body) {
+        Some(_) => match record_change(journal, body) {
             Recorded::Done => {
                 *begun = None;
                 Ok(())
@@ -68,7 +70,7 @@ pub(crate) fn write<D: Disk>(
                 Err(Failed)
             }
             Recorded::FaultBegun => {
-                *begun = Some(change);
+                *begun = change.take();
                 Err(Failed)
             }
             Recorded::FaultHeld => Err(Failed),

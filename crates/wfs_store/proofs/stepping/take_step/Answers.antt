@@ -20,11 +20,11 @@ returns-in-Ok-clause-store g c bodies side store =
     let told = side_told g.D.Disk.moment g.D.Disk.since g.D.Disk.images g.D.Disk.faults g.met.D.Disk.counts g.met.D.Disk.only c.args.course.now c.make_ready.new.course c.args.journal.now bodies side c.args.begun.now c.args.tally.now c.args.entry store c.make_ready.ensures.same c.side_length.result c.side_length.ensures in
     let at = c.in_ok-ready.ensures in
     let opening = opening_on c.args.course.now.state.schema bodies in
-    let writable = writable_copy g.D.Disk.moment g.D.Disk.since g.D.Disk.images g.D.Disk.faults g.met.D.Disk.counts g.met.D.Disk.only c.args.course.now c.make_ready.new.course c.args.journal.now bodies side c.args.begun.now c.args.tally.now c.args.entry store c.make_ready.ensures.same c.in_ok-ready.ready c.in_ok-ready.copy at.taken c.side_length.result c.make_ready.new.course.body.items c.deref.result.now told c.deref.ensures.value at.written in
-    let there = writable_there g.D.Disk.moment g.D.Disk.since g.D.Disk.images g.D.Disk.faults g.met.D.Disk.counts g.met.D.Disk.only c.args.course.now c.make_ready.new.course c.args.journal.now bodies side c.args.begun.now c.args.tally.now c.args.entry store c.make_ready.ensures.same c.in_ok-ready.ready c.in_ok-ready.copy at.taken c.deref.result.now writable in
+    let writable = writable_copy g.D.Disk.moment g.D.Disk.since g.D.Disk.images g.D.Disk.faults g.met.D.Disk.counts g.met.D.Disk.only c.args.course.now c.make_ready.new.course c.args.journal.now bodies side c.args.begun.now c.args.tally.now c.args.entry store c.make_ready.ensures.same c.in_ok-ready.ready at.taken c.side_length.result c.make_ready.new.course.body.items c.deref.result.now told c.deref.ensures.value at.written in
+    let there = writable_there g.D.Disk.moment g.D.Disk.since g.D.Disk.images g.D.Disk.faults g.met.D.Disk.counts g.met.D.Disk.only c.args.course.now c.make_ready.new.course c.args.journal.now bodies side c.args.begun.now c.args.tally.now c.args.entry store c.make_ready.ensures.same c.in_ok-ready.ready at.taken c.deref.result.now writable in
     let kept = c.in-Ok.ensures.kept c.args.course.now.state.schema (durable c.args.course.now.state.state) store.keeps there in
     let ended = c.enter.ensures in
-    done_store g.D.Disk.moment g.D.Disk.since g.D.Disk.images g.D.Disk.faults g.met.D.Disk.counts g.met.D.Disk.only c.args.course.now c.make_ready.new.course c.args.journal.now bodies side c.args.begun.now c.args.tally.now c.args.entry store c.make_ready.ensures.same c.in_ok-ready.ready c.in_ok-ready.copy at.taken c.enter.new.course c.write.new.journal c.write.new.begun c.enter.result c.deref.result.now
+    done_store g.D.Disk.moment g.D.Disk.since g.D.Disk.images g.D.Disk.faults g.met.D.Disk.counts g.met.D.Disk.only c.args.course.now c.make_ready.new.course c.args.journal.now bodies side c.args.begun.now c.args.tally.now c.args.entry store c.make_ready.ensures.same c.in_ok-ready.ready at.taken c.enter.new.course c.write.new.journal c.write.new.begun c.enter.result c.deref.result.now
     (ended.course opening (same_course opening c.args.course.now c.make_ready.new.course at.same store.memory))
     kept writable c.in-Ok.ensures.longer c.in-Ok.ensures.limit ended.entries ended.step ended.schema ended.limits
 
@@ -34,19 +34,19 @@ returns-in-Ok-clause-step g c bodies side store =
     let at = c.in_ok-ready.ensures in
     let opening = opening_on c.args.course.now.state.schema bodies in
     let full = at.full opening side store.memory (told ∙ store.length) in
-    let writable = writable_copy g.D.Disk.moment g.D.Disk.since g.D.Disk.images g.D.Disk.faults g.met.D.Disk.counts g.met.D.Disk.only c.args.course.now c.make_ready.new.course c.args.journal.now bodies side c.args.begun.now c.args.tally.now c.args.entry store c.make_ready.ensures.same c.in_ok-ready.ready c.in_ok-ready.copy at.taken c.side_length.result c.make_ready.new.course.body.items c.deref.result.now told c.deref.ensures.value at.written in
-    let there = writable_there g.D.Disk.moment g.D.Disk.since g.D.Disk.images g.D.Disk.faults g.met.D.Disk.counts g.met.D.Disk.only c.args.course.now c.make_ready.new.course c.args.journal.now bodies side c.args.begun.now c.args.tally.now c.args.entry store c.make_ready.ensures.same c.in_ok-ready.ready c.in_ok-ready.copy at.taken c.deref.result.now writable in
+    let writable = writable_copy g.D.Disk.moment g.D.Disk.since g.D.Disk.images g.D.Disk.faults g.met.D.Disk.counts g.met.D.Disk.only c.args.course.now c.make_ready.new.course c.args.journal.now bodies side c.args.begun.now c.args.tally.now c.args.entry store c.make_ready.ensures.same c.in_ok-ready.ready at.taken c.side_length.result c.make_ready.new.course.body.items c.deref.result.now told c.deref.ensures.value at.written in
+    let there = writable_there g.D.Disk.moment g.D.Disk.since g.D.Disk.images g.D.Disk.faults g.met.D.Disk.counts g.met.D.Disk.only c.args.course.now c.make_ready.new.course c.args.journal.now bodies side c.args.begun.now c.args.tally.now c.args.entry store c.make_ready.ensures.same c.in_ok-ready.ready at.taken c.deref.result.now writable in
     let goes = c.write.ensures.goes c.args.course.now.state.schema (durable c.args.course.now.state.state) store.keeps there in
     let ended = c.enter.ensures in
-    done_step g.D.Disk.moment g.D.Disk.since g.D.Disk.images g.D.Disk.faults g.met.D.Disk.counts g.met.D.Disk.only c.args.course.now c.make_ready.new.course c.args.journal.now bodies side c.args.begun.now c.args.tally.now c.args.entry store c.make_ready.ensures.same c.in_ok-ready.ready c.in_ok-ready.copy at.taken c.enter.new.course c.write.new.journal c.write.new.begun c.enter.result full goes
+    done_step g.D.Disk.moment g.D.Disk.since g.D.Disk.images g.D.Disk.faults g.met.D.Disk.counts g.met.D.Disk.only c.args.course.now c.make_ready.new.course c.args.journal.now bodies side c.args.begun.now c.args.tally.now c.args.entry store c.make_ready.ensures.same c.in_ok-ready.ready at.taken c.enter.new.course c.write.new.journal c.write.new.begun c.enter.result full goes
     c.in-Ok.ensures.done (λ none. (c.write.ensures.unwritten none).1) c.write.ensures.count ended.entries ended.step ended.schema ended.limits c.write.ensures.current
 
 pub returns-in-Err-clause-store : goal.returns-in-Err-clause-store
 returns-in-Err-clause-store g c bodies side store =
     let told = side_told g.D.Disk.moment g.D.Disk.since g.D.Disk.images g.D.Disk.faults g.met.D.Disk.counts g.met.D.Disk.only c.args.course.now c.make_ready.new.course c.args.journal.now bodies side c.args.begun.now c.args.tally.now c.args.entry store c.make_ready.ensures.same c.side_length.result c.side_length.ensures in
     let at = c.in_ok-ready.ensures in
-    let writable = writable_copy g.D.Disk.moment g.D.Disk.since g.D.Disk.images g.D.Disk.faults g.met.D.Disk.counts g.met.D.Disk.only c.args.course.now c.make_ready.new.course c.args.journal.now bodies side c.args.begun.now c.args.tally.now c.args.entry store c.make_ready.ensures.same c.in_ok-ready.ready c.in_ok-ready.copy at.taken c.side_length.result c.make_ready.new.course.body.items c.deref.result.now told c.deref.ensures.value at.written in
-    let there = writable_there g.D.Disk.moment g.D.Disk.since g.D.Disk.images g.D.Disk.faults g.met.D.Disk.counts g.met.D.Disk.only c.args.course.now c.make_ready.new.course c.args.journal.now bodies side c.args.begun.now c.args.tally.now c.args.entry store c.make_ready.ensures.same c.in_ok-ready.ready c.in_ok-ready.copy at.taken c.deref.result.now writable in
+    let writable = writable_copy g.D.Disk.moment g.D.Disk.since g.D.Disk.images g.D.Disk.faults g.met.D.Disk.counts g.met.D.Disk.only c.args.course.now c.make_ready.new.course c.args.journal.now bodies side c.args.begun.now c.args.tally.now c.args.entry store c.make_ready.ensures.same c.in_ok-ready.ready at.taken c.side_length.result c.make_ready.new.course.body.items c.deref.result.now told c.deref.ensures.value at.written in
+    let there = writable_there g.D.Disk.moment g.D.Disk.since g.D.Disk.images g.D.Disk.faults g.met.D.Disk.counts g.met.D.Disk.only c.args.course.now c.make_ready.new.course c.args.journal.now bodies side c.args.begun.now c.args.tally.now c.args.entry store c.make_ready.ensures.same c.in_ok-ready.ready at.taken c.deref.result.now writable in
     let kept = c.in-Err.ensures.kept c.args.course.now.state.schema (durable c.args.course.now.state.state) store.keeps there in
     store_stays g.D.Disk.images c.args.course.now c.make_ready.new.course bodies side c.args.journal.now c.write.new.journal c.args.begun.now c.write.new.begun at.same store
     kept c.in-Err.ensures.same c.in-Err.ensures.limit
@@ -57,8 +57,8 @@ returns-in-Err-clause-step g c bodies side store =
     let at = c.in_ok-ready.ensures in
     let opening = opening_on c.args.course.now.state.schema bodies in
     let full = at.full opening side store.memory (told ∙ store.length) in
-    let writable = writable_copy g.D.Disk.moment g.D.Disk.since g.D.Disk.images g.D.Disk.faults g.met.D.Disk.counts g.met.D.Disk.only c.args.course.now c.make_ready.new.course c.args.journal.now bodies side c.args.begun.now c.args.tally.now c.args.entry store c.make_ready.ensures.same c.in_ok-ready.ready c.in_ok-ready.copy at.taken c.side_length.result c.make_ready.new.course.body.items c.deref.result.now told c.deref.ensures.value at.written in
-    let there = writable_there g.D.Disk.moment g.D.Disk.since g.D.Disk.images g.D.Disk.faults g.met.D.Disk.counts g.met.D.Disk.only c.args.course.now c.make_ready.new.course c.args.journal.now bodies side c.args.begun.now c.args.tally.now c.args.entry store c.make_ready.ensures.same c.in_ok-ready.ready c.in_ok-ready.copy at.taken c.deref.result.now writable in
+    let writable = writable_copy g.D.Disk.moment g.D.Disk.since g.D.Disk.images g.D.Disk.faults g.met.D.Disk.counts g.met.D.Disk.only c.args.course.now c.make_ready.new.course c.args.journal.now bodies side c.args.begun.now c.args.tally.now c.args.entry store c.make_ready.ensures.same c.in_ok-ready.ready at.taken c.side_length.result c.make_ready.new.course.body.items c.deref.result.now told c.deref.ensures.value at.written in
+    let there = writable_there g.D.Disk.moment g.D.Disk.since g.D.Disk.images g.D.Disk.faults g.met.D.Disk.counts g.met.D.Disk.only c.args.course.now c.make_ready.new.course c.args.journal.now bodies side c.args.begun.now c.args.tally.now c.args.entry store c.make_ready.ensures.same c.in_ok-ready.ready at.taken c.deref.result.now writable in
     let goes = c.write.ensures.goes c.args.course.now.state.schema (durable c.args.course.now.state.state) store.keeps there in
-    failed_step g.D.Disk.moment g.D.Disk.since g.D.Disk.images g.D.Disk.faults g.met.D.Disk.counts g.met.D.Disk.only c.args.course.now c.make_ready.new.course c.args.journal.now bodies side c.args.begun.now c.args.tally.now c.args.entry store c.make_ready.ensures.same c.in_ok-ready.ready c.in_ok-ready.copy at.taken c.write.new.journal c.write.new.begun c.raise.new.tally full goes
+    failed_step g.D.Disk.moment g.D.Disk.since g.D.Disk.images g.D.Disk.faults g.met.D.Disk.counts g.met.D.Disk.only c.args.course.now c.make_ready.new.course c.args.journal.now bodies side c.args.begun.now c.args.tally.now c.args.entry store c.make_ready.ensures.same c.in_ok-ready.ready at.taken c.write.new.journal c.write.new.begun c.raise.new.tally full goes
     c.in-Err.ensures.fault (λ none. let e = (c.in-Err.ensures.unwritten none).0 in absurd cc) c.raise.ensures c.write.ensures.count c.in-Err.ensures.cause c.write.ensures.current

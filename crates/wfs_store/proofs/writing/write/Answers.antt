@@ -11,4 +11,4 @@ returns-in-None-clause-goes g c schema kept keeps writable =
     let disks = disks_of c.args.journal.now in
     let stand = c.stands.ensures schema kept c.args.begun.now keeps in
     once disks disks (within_still g.D.Disk.moment g.D.Disk.since g.D.Disk.images g.met.D.Disk.counts g.met.D.Disk.only
-    (SaysEither schema kept c.args.begun.now c.args.change) disks (λ x y at_a at_b. inl (stand x y at_a at_b)))
+    (SaysEither schema kept c.args.begun.now c.args.change.now) disks (λ x y at_a at_b. inl (stand x y at_a at_b)))
