@@ -38,6 +38,7 @@ impl<D: Disk> Counter<D> {
         ensures above { shown_in self.old ≤ shown_in self.new }
         ensures below { shown_in self.new ≤ length self.new.store.entries }
     {
+        // what is published stands among the given pairs
         let _shown = self.publisher.shown();
         let front = self.store.entries();
         let change = self.store.last_change();
