@@ -1,6 +1,6 @@
 //! What a seat does for a message, in a turn or without one, and what it answers.
 
-ghost use Rattle.std.specs.Prelude.{◌≡◌, ◌≤◌, All, Ok, Err};
+ghost use Rattle.std.specs.Prelude.{◌≡◌, ◌≤◌, All, Ok};
 ghost use mathlib.Core.List.{IsPrefix};
 ghost use Rattle.feature_values.specs.declared.schema.Schema.{Schema as SchemaFacts};
 ghost use Rattle.message_asks.specs.Asks.{asked};

@@ -1,5 +1,5 @@
 -- Ends before a store is started.
-use Rattle.std.specs.Prelude.{◌≡◌, ℕ, List, codes, Result, Ok, Err, IfSome}
+use Rattle.std.specs.Prelude.{◌≡◌, ℕ, List, Result, Ok, Err, IfSome}
 use Rattle.disk_core.specs.declared.pair.Pair.{Pair}
 use Rattle.feature_schema.specs.declared.fault.SchemaFault.{SchemaFault}
 use Rattle.feature_values.specs.declared.schema.Schema.{Schema}
