@@ -1,8 +1,7 @@
 //! An element's attributes, asked for by name. What is expected is written from Namespaces in XML 1.0, section 6.
 
 use crate::names::name;
-use doc_attributes::{first_other, value_at};
-use doc_tree::Attribute;
+use doc_tree::{Attribute, first_other, value_at};
 use std::alloc::Global;
 use std::test::Fail;
 use wfs_ends::{Mem, Text};

@@ -6,8 +6,8 @@ use Rattle.doc_tree.specs.declared.tree.Attribute.{Attribute}
 use Rattle.doc_tree.specs.declared.tree.Element.{Element, out-Element}
 use Rattle.doc_tree.specs.declared.tree.Element.TheOpen.{Element-F}
 use Rattle.doc_tree.specs.declared.tree.Element.TheViews.{out-roll-Element}
-use Rattle.doc_attributes.specs.Names.{is_name, value_at}
-use Rattle.doc_attributes.specs.Others.{first_other}
+use Rattle.doc_tree.specs.Attributes.{is_name, value_at}
+use Rattle.doc_tree.specs.Others.{first_other}
 use Rattle.fes_docs.specs.Names.{fes_space, is_fes, text_of, value_of, refused, no_others, no_more, plain}
 use Rattle.fes_docs.specs.Sides.{match_case, case_of, only_case}
 use Rattle.fes_docs.specs.Written.{element, leaf, parent}

@@ -18,8 +18,8 @@ use Rattle.fes_filter.specs.declared.expr.By.{By}
 use Rattle.fes_filter.specs.declared.filter.Filter.{Filter}
 use Rattle.fes_filter.specs.declared.filter.Filter.TheVariants.{Compare}
 use Rattle.fes_docs.specs.declared.fault.FilterDocFault.{FilterDocFault}
-use Rattle.doc_attributes.specs.Names.{value_at}
-use Rattle.doc_attributes.specs.Others.{is_other, first_other}
+use Rattle.doc_tree.specs.Attributes.{value_at}
+use Rattle.doc_tree.specs.Others.{is_other, first_other}
 use Rattle.fes_docs.specs.Names.{is_fes, text_of, value_of, refused, named, no_more, first_in, no_others}
 use Rattle.fes_docs.specs.Sides.{Sides, comparable_at, literal_as, literal_at, beside, right_of, left_of, sides_from, sides_of, match_case, case_by, fold_of, action_of, only_matches, folded, compare_of}
 use Rattle.fes_docs.specs.Written.{reference, side, comparison_name, case_attributes, attribute, compare_tree}

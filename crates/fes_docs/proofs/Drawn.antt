@@ -16,7 +16,7 @@ use Rattle.geom_core.specs.declared.fault.GeomFault.{GeomFault}
 use Rattle.geom_core.specs.declared.geometry.Geometry.{Geometry}
 use Rattle.gml_docs.specs.declared.fault.GmlFault.{GmlFault}
 use Rattle.gml_docs.specs.Numbers.{shaped, located, point_of, only_located, position_in, words}
-use Rattle.doc_attributes.specs.Names.{is_name, is_among}
+use Rattle.doc_tree.specs.Attributes.{is_name, is_among}
 use Rattle.gml_docs.specs.Elements.{is_gml, is_fitting, fitted, entered, no_more as gml_no_more, position_at, lower_corner, upper_corner, box_above, corners_of, envelope_of, geometry_of}
 use Rattle.gml_docs.specs.Written.{gml_name, plain_name, position_text, element as gml_element, leaf as gml_leaf, parent as gml_parent, tree_of}
 use Rattle.gml_docs.specs.RoundTrip.{IsGeometry}

@@ -18,8 +18,8 @@ use Rattle.feature_values.specs.declared.schema.Schema.{Schema}
 use Rattle.feature_values.proofs.Dots.{no_dot}
 use Rattle.fes_filter.specs.declared.ids.IdRef.{IdRef}
 use Rattle.fes_docs.specs.declared.fault.FilterDocFault.{FilterDocFault}
-use Rattle.doc_attributes.specs.Names.{value_at}
-use Rattle.doc_attributes.specs.Others.{is_other, first_other}
+use Rattle.doc_tree.specs.Attributes.{value_at}
+use Rattle.doc_tree.specs.Others.{is_other, first_other}
 use Rattle.fes_docs.specs.Names.{is_fes, value_of, no_others, named, no_more}
 use Rattle.fes_docs.specs.Uses.{name_in, place_of}
 use Rattle.fes_docs.specs.Ids.{known_or_nobody, id_as, id_in, id_at, next_id}

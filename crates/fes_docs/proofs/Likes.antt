@@ -23,8 +23,8 @@ use Rattle.fes_filter.specs.declared.filter.Filter.{Filter}
 use Rattle.fes_filter.specs.declared.filter.Filter.TheVariants.{Like}
 use Rattle.fes_docs.specs.declared.like.Marks.{Marks}
 use Rattle.fes_docs.specs.declared.fault.FilterDocFault.{FilterDocFault}
-use Rattle.doc_attributes.specs.Names.{value_at}
-use Rattle.doc_attributes.specs.Others.{is_other, first_other}
+use Rattle.doc_tree.specs.Attributes.{value_at}
+use Rattle.doc_tree.specs.Others.{is_other, first_other}
 use Rattle.fes_docs.specs.Names.{text_of, refused, named, no_more, first_in, plain}
 use Rattle.fes_docs.specs.Sides.{property_at, suited, match_case, case_of}
 use Rattle.fes_docs.specs.Like.{one_of, mark_in, mark_of, marks_of, only_marks, next_part, pattern_of, pattern_behind, like_of}

@@ -5,8 +5,8 @@
 use Rattle.std.specs.Prelude.{ℕ, Bool, if◌then◌else◌, List, [], ◌∷◌, codes, Option, Some, None, Result, Ok, Err}
 use Rattle.wfs_ends.specs.Read.{◌>>=◌}
 use Rattle.doc_tree.specs.declared.tree.Element.{Element, out-Element}
-use Rattle.doc_attributes.specs.Names.{is_name, value_at}
-use Rattle.doc_attributes.specs.Others.{first_other}
+use Rattle.doc_tree.specs.Attributes.{is_name, value_at}
+use Rattle.doc_tree.specs.Others.{first_other}
 use Rattle.gml_docs.specs.declared.fault.GmlFault.{GmlFault}
 use Rattle.gml_docs.specs.declared.fault.GmlFault.TheVariants.{Srs, OutOfMemory as NoMemory}
 use Rattle.fes_filter.specs.declared.fault.FilterFault.TheVariants.{Unknown, Types, Choice, TooLarge}

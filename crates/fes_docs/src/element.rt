@@ -7,17 +7,16 @@ ghost use Rattle.fes_docs.specs.Names.{is_fes, value_of, no_others, named, no_mo
 ghost use Rattle.fes_docs.specs.declared.fault.FilterDocFault.TheVariants.{OutOfMemory};
 
 use crate::fault::{FilterDocFault, misplaced, no_operator};
-use doc_attributes::{first_other, is_name, value_at};
-use doc_tree::Element;
+use doc_tree::{Element, first_other, is_name, value_at};
 use std::alloc::Global;
 use wfs_ends::Text;
 
-// The namespace of FES 2.0.
-pub(crate) const FES: &str = "http://www.opengis.net/fes/2.0";
+/// The namespace of FES 2.0.
+pub const FES: &str = "http://www.opengis.net/fes/2.0";
 
-// Whether an element is FES's of this local name.
+/// Whether an element is FES's of this local name.
 #[tactic(auto, unfolding(crate::specs::Names::is_fes))]
-pub(crate) fn is_fes(element: &Element, local: &str) -> bool
+pub fn is_fes(element: &Element, local: &str) -> bool
     ensures { result ≡ is_fes local.now element.now }
 {
     is_name(&element.name, FES, local)

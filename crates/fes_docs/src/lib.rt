@@ -18,6 +18,7 @@ mod uses;
 mod write;
 mod written;
 
+pub use element::{FES, is_fes};
 pub use fault::FilterDocFault;
 pub use laws::{read_is_allowed, round_trip};
 pub use read::{read_filter, read_filter_in};

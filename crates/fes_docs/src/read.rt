@@ -15,11 +15,9 @@ use crate::operator::{Operator, Predicate, operator_in};
 use crate::spatial::{box_of, operands_of};
 use doc_tree::Element;
 use feature_values::Schema;
-use fes_filter::{Filter, FilterFault, IdRef, type_in};
+use fes_filter::{Filter, FilterFault, IdRef, MOST_OPERATORS, type_in};
 use std::alloc::Global;
 use wfs_ends::{Boxed, List, Mem, Text};
-
-const MOST_OPERATORS: u32 = 1_000;
 
 // One operator more, where so many may still stand.
 #[tactic(auto, unfolding(crate::specs::Filters::counted))]

@@ -7,11 +7,9 @@ ghost use Rattle.fes_docs.specs.Written.{element, leaf, parent, attribute};
 
 use crate::element::FES;
 use doc_tree::{Attribute, Element, QName};
+use gml_docs::GML;
 use std::alloc::Global;
 use wfs_ends::{List, Mem, Text};
-
-// The namespace of GML 3.2.
-const GML: &str = "http://www.opengis.net/gml/3.2";
 
 // Adds a text to one.
 pub(crate) fn add(line: &mut String, text: &str) -> Mem<()>

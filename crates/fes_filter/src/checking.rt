@@ -14,7 +14,8 @@ use crate::kinds::{
 use feature_values::{FeatureType, Schema};
 use wfs_ends::List;
 
-const MOST_OPERATORS: u32 = 1_000;
+/// How many operators a filter has at most.
+pub const MOST_OPERATORS: u32 = 1_000;
 
 /// The property of a comparison, the first if both sides are one.
 fn subject(left: &Expr, right: &Expr) -> Option<u32>

@@ -23,7 +23,7 @@ mod truths;
 mod values;
 mod view;
 
-pub use checking::check;
+pub use checking::{MOST_OPERATORS, check};
 pub use expr::{By, Expr};
 pub use fault::FilterFault;
 pub use filter::Filter;

@@ -14,7 +14,7 @@ use Rattle.geom_core.specs.Plane.{Point, IsPosition, Area}
 use Rattle.geom_core.specs.Valid.{IsLineOf, IsRingOf, IsAreaOf}
 use Rattle.geom_core.specs.declared.geometry.Geometry.TheVariants.{At, Along, Over}
 use Rattle.geom_core.proofs.Valid.{line_is, ring_is, area_is}
-use Rattle.doc_attributes.specs.Names.{is_name, is_among}
+use Rattle.doc_tree.specs.Attributes.{is_name, is_among}
 use Rattle.gml_docs.specs.Elements.{gml_space, is_gml, is_fitting, fitted, entered, no_more, position_at, list_at, path_of, point_at, line_at, ring_at, only_ring, side_at, next_hole, area_of, polygon_at, geometry_of}
 use Rattle.gml_docs.specs.Written.{position_text, positions_text, gml_name, plain_name, element, leaf, parent, attributes_of, list_tree, side_tree, hole_tree, area_trees, tree_of}
 use Rattle.gml_docs.specs.RoundTrip.{ReadsBack}

@@ -9,7 +9,7 @@ use Rattle.std.specs.Str.{bytes_eq}
 use Rattle.wfs_ends.specs.Read.{◌>>=◌, each}
 use Rattle.doc_tree.specs.declared.tree.Attribute.{Attribute}
 use Rattle.doc_tree.specs.declared.tree.Element.{Element, out-Element}
-use Rattle.doc_attributes.specs.Names.{is_name, is_among}
+use Rattle.doc_tree.specs.Attributes.{is_name, is_among}
 use Rattle.geom_core.specs.Plane.{Point, Bounds, Area}
 use Rattle.geom_core.specs.Shapes.{line_of, ring_of, polygon_of, box_of}
 use Rattle.geom_core.specs.declared.geometry.Geometry.{Geometry}

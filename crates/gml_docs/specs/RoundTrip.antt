@@ -1,7 +1,7 @@
 -- What is written reads back as what was given.
 use Rattle.std.specs.Prelude.{◌≡◌, ℕ, true, List, Ok}
 use Rattle.geom_core.specs.declared.geometry.Geometry.{Geometry}
-use Rattle.doc_attributes.specs.Names.{is_among}
+use Rattle.doc_tree.specs.Attributes.{is_among}
 use Rattle.gml_docs.specs.Elements.{geometry_of}
 use Rattle.gml_docs.specs.Written.{tree_of}
 pub use Rattle.geom_core.specs.Valid.{IsGeometry}

@@ -2,17 +2,16 @@
 
 ghost use Rattle.std.specs.Prelude.{◌≡◌};
 ghost use Rattle.std.specs.List.{list_all};
-ghost use Rattle.doc_attributes.specs.Names.{is_among};
+ghost use Rattle.doc_tree.specs.Attributes.{is_among};
 ghost use Rattle.gml_docs.specs.Elements.{is_gml, is_fitting, fitted, entered, no_more};
 ghost use Rattle.doc_tree.specs.declared.tree.Element.{out-Element};
 
 use crate::fault::GmlFault;
-use doc_attributes::is_name;
-use doc_tree::{Attribute, Element};
+use doc_tree::{Attribute, Element, is_name};
 use wfs_ends::{List, Text};
 
-// The namespace of GML 3.2.
-pub(crate) const GML: &str = "http://www.opengis.net/gml/3.2";
+/// The namespace of GML 3.2.
+pub const GML: &str = "http://www.opengis.net/gml/3.2";
 
 // Whether an element is GML's of this local name.
 #[tactic(auto, unfolding(crate::specs::Elements::is_gml))]

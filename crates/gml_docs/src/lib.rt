@@ -13,6 +13,7 @@ mod read;
 mod tree;
 mod words;
 
+pub use element::GML;
 pub use envelope::read_envelope;
 pub use fault::GmlFault;
 pub use laws::{round_trip, stands_alike};

@@ -9,13 +9,13 @@ use Rattle.wfs_model.specs.declared.fault.AskFault.TheVariants.{OutOfMemory}
 use Rattle.wfs_model.specs.declared.request.Take.{Take}
 use Rattle.wfs_model.specs.declared.request.Request.{Request}
 use Rattle.wfs_model.specs.OfSchema.{stored_in}
-use Rattle.request_terms.specs.Said.{Said, required_of}
-use Rattle.request_terms.specs.Base.{format_of, negotiated}
-use Rattle.request_terms.specs.Paging.{page_of, locked_page_of}
-use Rattle.request_terms.specs.Locking.{take_of, lock_of, expiry_of, period_of}
-use Rattle.request_terms.specs.Stored.{dropped_of}
-use Rattle.request_terms.specs.declared.operation.Operation.{Operation}
-use Rattle.request_terms.specs.declared.operation.Operation.TheVariants as Op
+use Rattle.request_parameters.specs.Said.{Said, required_of}
+use Rattle.request_parameters.specs.Base.{format_of, negotiated}
+use Rattle.request_parameters.specs.Paging.{page_of, locked_page_of}
+use Rattle.request_parameters.specs.Locking.{take_of, lock_of, expiry_of, period_of}
+use Rattle.request_parameters.specs.Stored.{dropped_of}
+use Rattle.request_parameters.specs.declared.operation.Operation.{Operation}
+use Rattle.request_parameters.specs.declared.operation.Operation.TheVariants as Op
 use Rattle.query_docs.specs.Reading.{IsKeptText}
 use Rattle.query_docs.proofs.Makes.{MakesNone, behind, is_none, none_kept}
 use Rattle.kvp_queries.specs.Pairs.{Pair, pairs_of, listed_of, said_by}

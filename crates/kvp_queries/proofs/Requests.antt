@@ -22,13 +22,13 @@ use Rattle.wfs_model.specs.declared.request.Request.{Request}
 use Rattle.wfs_model.specs.declared.request.Request.TheVariants.{Capabilities, DescribeTypes, GetFeatures, GetValues, GetLocked, Lock, Renew, ListStored, DescribeStored, DropStored}
 use Rattle.wfs_model.specs.Stored.{is_id_query}
 use Rattle.wfs_model.specs.OfSchema.{IsType, IsQueryOf, IsActionOf, IsStoredOf, IsOfSchema, query_in, names_given}
-use Rattle.request_terms.specs.Said.{Said, Ask, required_of}
-use Rattle.request_terms.specs.Base.{format_of, negotiated}
-use Rattle.request_terms.specs.Paging.{page_of, locked_page_of, presented}
-use Rattle.request_terms.specs.Locking.{take_of, lock_of, expiry_of, period_of}
-use Rattle.request_terms.specs.Stored.{dropped_of}
-use Rattle.request_terms.specs.declared.operation.Operation.{Operation}
-use Rattle.request_terms.specs.declared.operation.Operation.TheVariants as Op
+use Rattle.request_parameters.specs.Said.{Said, Ask, required_of}
+use Rattle.request_parameters.specs.Base.{format_of, negotiated}
+use Rattle.request_parameters.specs.Paging.{page_of, locked_page_of, presented}
+use Rattle.request_parameters.specs.Locking.{take_of, lock_of, expiry_of, period_of}
+use Rattle.request_parameters.specs.Stored.{dropped_of}
+use Rattle.request_parameters.specs.declared.operation.Operation.{Operation}
+use Rattle.request_parameters.specs.declared.operation.Operation.TheVariants as Op
 use Rattle.kvp_queries.specs.Pairs.{Pair, pairs_of, listed_of, said_by, counts, is_parameter, parameters_of, link_of}
 use Rattle.kvp_queries.specs.Lists.{items_if}
 use Rattle.kvp_queries.specs.Selection.{type_names_of}

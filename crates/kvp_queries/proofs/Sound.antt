@@ -31,10 +31,10 @@ use Rattle.wfs_model.specs.Terms.{refused, count_of}
 use Rattle.wfs_model.specs.declared.fault.AskFault.{AskFault}
 use Rattle.wfs_model.specs.OfSchema.{IsType, IsFilterOf, IsQueryOf, property_at, known_id, id_place, ids_step, places_step, places_in}
 use Rattle.wfs_model.specs.OfSchema.{ids_in as features_in}
-use Rattle.request_terms.specs.Said.{Said, Ask, or_fault, read_if, kind_of}
-use Rattle.request_terms.specs.Base.{srs_of}
-use Rattle.request_terms.specs.Locking.{from_1_on, seconds_in, expiry_of, period_of}
-use Rattle.request_terms.proofs.Named.{is_type}
+use Rattle.request_parameters.specs.Said.{Said, Ask, or_fault, read_if, kind_of}
+use Rattle.request_parameters.specs.Base.{srs_of}
+use Rattle.request_parameters.specs.Locking.{from_1_on, seconds_in, expiry_of, period_of}
+use Rattle.request_parameters.proofs.Named.{is_type}
 use Rattle.query_docs.specs.Elements.{or_refusal}
 use Rattle.query_docs.specs.Sorting.{sortable}
 use Rattle.query_docs.proofs.Within.{filter_within}

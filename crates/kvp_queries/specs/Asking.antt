@@ -10,10 +10,10 @@ use Rattle.fes_filter.specs.declared.query.SortKey.{SortKey}
 use Rattle.wfs_model.specs.Terms.{refused}
 use Rattle.wfs_model.specs.declared.asked.Asked.{Asked}
 use Rattle.wfs_model.specs.declared.asked.Asked.TheVariants.{Plain, Stored}
-use Rattle.request_terms.specs.Said.{Said, Ask, or_fault, passing}
-use Rattle.request_terms.specs.Base.{srs_of}
-use Rattle.request_terms.specs.declared.operation.Operation.{Operation}
-use Rattle.request_terms.specs.declared.operation.Operation.TheVariants.{GetPropertyValue}
+use Rattle.request_parameters.specs.Said.{Said, Ask, or_fault, passing}
+use Rattle.request_parameters.specs.Base.{srs_of}
+use Rattle.request_parameters.specs.declared.operation.Operation.{Operation}
+use Rattle.request_parameters.specs.declared.operation.Operation.TheVariants.{GetPropertyValue}
 use Rattle.kvp_queries.specs.Pairs.{Pair, parameters_of}
 use Rattle.kvp_queries.specs.Selection.{type_of, type_names_of, chosen}
 use Rattle.kvp_queries.specs.Sorting.{keys_of}

@@ -7,9 +7,9 @@ use Rattle.std.specs.Str.Lossy.{utf8_lossy}
 use Rattle.form_urlencoded.specs.Form.{raw_pairs, decode, extend_pairs}
 use Rattle.wfs_ends.specs.Read.{◌>>=◌, each, unless}
 use Rattle.wfs_model.specs.Terms.{refused}
-use Rattle.request_terms.specs.Said.{Said, Ask}
-use Rattle.request_terms.specs.declared.operation.Operation.{Operation}
-use Rattle.request_terms.specs.declared.operation.Operation.TheVariants.{GetFeature, GetPropertyValue, GetFeatureWithLock, LockFeature}
+use Rattle.request_parameters.specs.Said.{Said, Ask}
+use Rattle.request_parameters.specs.declared.operation.Operation.{Operation}
+use Rattle.request_parameters.specs.declared.operation.Operation.TheVariants.{GetFeature, GetPropertyValue, GetFeatureWithLock, LockFeature}
 
 -- a name and a value
 abbrev pub Pair : Type 0

@@ -9,14 +9,14 @@ use Rattle.wfs_model.specs.Terms.{refused}
 use Rattle.wfs_model.specs.declared.request.Take.{Take}
 use Rattle.wfs_model.specs.declared.request.Request.{Request}
 use Rattle.wfs_model.specs.declared.request.Request.TheVariants.{Capabilities, DescribeTypes, GetFeatures, GetValues, GetLocked, Lock, Renew, ListStored, DescribeStored, DropStored}
-use Rattle.request_terms.specs.Said.{Said, Ask, required_of, kind_of}
-use Rattle.request_terms.specs.Base.{service_of, version_of, format_of, negotiated}
-use Rattle.request_terms.specs.Paging.{page_of, locked_page_of, presented}
-use Rattle.request_terms.specs.Locking.{take_of, lock_of, expiry_of, period_of}
-use Rattle.request_terms.specs.Operations.{name_of, queried_of}
-use Rattle.request_terms.specs.Stored.{dropped_of}
-use Rattle.request_terms.specs.declared.operation.Operation.{Operation}
-use Rattle.request_terms.specs.declared.operation.Operation.TheVariants.{GetCapabilities, DescribeFeatureType, GetPropertyValue, GetFeature, GetFeatureWithLock, LockFeature, Transaction, ListStoredQueries, DescribeStoredQueries, CreateStoredQuery, DropStoredQuery}
+use Rattle.request_parameters.specs.Said.{Said, Ask, required_of, kind_of}
+use Rattle.request_parameters.specs.Base.{service_of, version_of, format_of, negotiated}
+use Rattle.request_parameters.specs.Paging.{page_of, locked_page_of, presented}
+use Rattle.request_parameters.specs.Locking.{take_of, lock_of, expiry_of, period_of}
+use Rattle.request_parameters.specs.Operations.{name_of, queried_of}
+use Rattle.request_parameters.specs.Stored.{dropped_of}
+use Rattle.request_parameters.specs.declared.operation.Operation.{Operation}
+use Rattle.request_parameters.specs.declared.operation.Operation.TheVariants.{GetCapabilities, DescribeFeatureType, GetPropertyValue, GetFeature, GetFeatureWithLock, LockFeature, Transaction, ListStoredQueries, DescribeStoredQueries, CreateStoredQuery, DropStoredQuery}
 use Rattle.kvp_queries.specs.Pairs.{Pair, pairs_of, listed_of, said_by, link_of}
 use Rattle.kvp_queries.specs.Lists.{items_if}
 use Rattle.kvp_queries.specs.Selection.{type_names_of}

@@ -21,7 +21,7 @@ use Rattle.fes_filter.specs.declared.ids.IdRef.{IdRef}
 use Rattle.fes_filter.specs.declared.ids.IdRef.TheVariants.{Known, Nobody}
 use Rattle.fes_docs.specs.Filters.{filter_of}
 use Rattle.wfs_model.specs.Terms.{refused, is_listed}
-use Rattle.request_terms.specs.Said.{Said, Ask, or_fault, kind_of}
+use Rattle.request_parameters.specs.Said.{Said, Ask, or_fault, kind_of}
 use Rattle.query_docs.specs.Elements.{or_refusal}
 use Rattle.kvp_queries.specs.Pairs.{or_else}
 use Rattle.kvp_queries.specs.Lists.{is_comma, items_in}

@@ -9,7 +9,7 @@ use Rattle.fes_filter.specs.Check.{type_in, property_in}
 use Rattle.fes_filter.specs.declared.query.SortKey.{SortKey}
 use Rattle.wfs_model.specs.Terms.{refused}
 use Rattle.wfs_model.specs.declared.fault.AskFault.{AskFault}
-use Rattle.request_terms.specs.Said.{Said, Ask, or_fault}
+use Rattle.request_parameters.specs.Said.{Said, Ask, or_fault}
 use Rattle.query_docs.specs.Sorting.{sortable, order_word}
 use Rattle.kvp_queries.specs.Lists.{items_in}
 

@@ -3,7 +3,7 @@
 ghost use Rattle.std.specs.Prelude.{◌≡◌, [], ◌∷◌, ◌++◌, None, IfOk};
 ghost use Rattle.wfs_ends.specs.Read.{GivesBut};
 ghost use Rattle.wfs_model.specs.declared.asked.Asked.TheVariants.{Stored};
-ghost use Rattle.request_terms.specs.declared.operation.Operation.TheVariants.{GetPropertyValue};
+ghost use Rattle.request_parameters.specs.declared.operation.Operation.TheVariants.{GetPropertyValue};
 ghost use Rattle.kvp_queries.specs.Pairs.{said_by, parameters_of};
 ghost use Rattle.kvp_queries.specs.Asking.{property_name_of, sorted_of, query_of, stored_id, enough_of, asked_by, property_of, valued};
 
@@ -13,7 +13,7 @@ use crate::selecting::{chosen, type_names_of, type_of};
 use crate::sorting::keys_of;
 use feature_values::Schema;
 use fes_filter::{Query, SortKey, property_in, type_in};
-use request_terms::{Given, Operation, srs_of};
+use request_parameters::{Given, Operation, srs_of};
 use std::alloc::Global;
 use wfs_ends::{List, Mem, Text};
 use wfs_model::{AskFault, Asked, refused};

@@ -9,7 +9,7 @@ use crate::lists::items_if;
 use crate::pairs::Listed;
 use crate::selecting::type_names_of;
 use feature_values::Schema;
-use request_terms::{Given, dropped_of, format_of, kind_of, negotiated};
+use request_parameters::{Given, dropped_of, format_of, kind_of, negotiated};
 use std::alloc::Global;
 use wfs_ends::{List, Mem, Text};
 use wfs_model::{AskFault, Request};

@@ -2,7 +2,7 @@
 
 ghost use Rattle.std.specs.Prelude.{◌≡◌, Some, IfOk};
 ghost use Rattle.wfs_ends.specs.Read.{GivesBut};
-ghost use Rattle.request_terms.specs.Paging.{presented};
+ghost use Rattle.request_parameters.specs.Paging.{presented};
 ghost use Rattle.kvp_queries.specs.Pairs.{said_by, link_of};
 ghost use Rattle.kvp_queries.specs.Request.{features_of, reference_of, values_of};
 
@@ -10,7 +10,7 @@ use crate::asking::{all_asked, enough_of, query_of, valued};
 use crate::link::link_of;
 use crate::pairs::Listed;
 use feature_values::Schema;
-use request_terms::{Operation, Page, page_of, required_of};
+use request_parameters::{Operation, Page, page_of, required_of};
 use std::alloc::Global;
 use wfs_ends::{Mem, Text};
 use wfs_model::{AskFault, Present, Request};

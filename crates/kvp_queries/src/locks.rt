@@ -9,7 +9,9 @@ use crate::asking::{all_asked, enough_of, query_of};
 use crate::pairs::Listed;
 use crate::selecting::type_names_of;
 use feature_values::Schema;
-use request_terms::{Given, Operation, expiry_of, lock_of, locked_page_of, period_of, take_of};
+use request_parameters::{
+    Given, Operation, expiry_of, lock_of, locked_page_of, period_of, take_of,
+};
 use std::alloc::Global;
 use wfs_ends::Text;
 use wfs_model::{AskFault, LockId, Request, Take, refused};

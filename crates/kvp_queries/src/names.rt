@@ -3,7 +3,7 @@
 ghost use Rattle.std.specs.Prelude.{◌≡◌, map, option_map};
 ghost use Rattle.kvp_queries.specs.Pairs.{among, is_same, or_else, base_name, page_name, query_name, other_name, listed_name, is_lock_name, lists_too, lists, is_type_names, repeated_name};
 
-use request_terms::Operation;
+use request_parameters::Operation;
 
 // Whether two names are one.
 #[tactic(auto, unfolding(crate::specs::Pairs::is_same))]

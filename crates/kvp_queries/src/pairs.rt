@@ -9,7 +9,7 @@ ghost use Rattle.kvp_queries.specs.Pairs.{pairs_of, counts, is_listed, is_repeat
 
 use crate::names::{is_same, is_type_names, listed_name, lists, repeated_name};
 use form_urlencoded::parse;
-use request_terms::{Given, Operation};
+use request_parameters::{Given, Operation};
 use std::alloc::Global;
 use std::borrow::CowStr;
 use wfs_ends::{List, Mem, OutOfMemory, Text};

@@ -12,7 +12,7 @@ use crate::features::{features_of, values_of};
 use crate::locks::{lock_asked, locked_of};
 use crate::pairs::{Listed, listed_of, pairs_of};
 use feature_values::Schema;
-use request_terms::{Operation, queried_of, service_of, version_of};
+use request_parameters::{Operation, queried_of, service_of, version_of};
 use std::alloc::Global;
 use wfs_ends::{List, Text};
 use wfs_model::{AskFault, Request, refused};

@@ -18,7 +18,7 @@ use fes_docs::{FilterDocFault, read_filter};
 use fes_filter::{Filter, IdRef};
 use geom_core::{Box2, Pos};
 use gml_docs::read_position;
-use request_terms::{Given, kind_of};
+use request_parameters::{Given, kind_of};
 use std::alloc::Global;
 use wfs_ends::{List, Mem, Text};
 use wfs_model::{AskFault, is_listed, refused};

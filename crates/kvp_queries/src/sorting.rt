@@ -13,7 +13,7 @@ use crate::lists::cut;
 use crate::pairs::Listed;
 use feature_values::{FeatureType, Schema};
 use fes_filter::{SortKey, is_shape, property_in, type_in};
-use request_terms::Given;
+use request_parameters::Given;
 use std::alloc::Global;
 use wfs_ends::{List, Mem};
 use wfs_model::{AskFault, refused};

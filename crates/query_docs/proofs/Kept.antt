@@ -13,7 +13,7 @@ use Rattle.doc_tree.specs.declared.tree.Attribute.{Attribute}
 use Rattle.doc_tree.specs.declared.tree.Element.{Element, out-Element}
 use Rattle.doc_tree.specs.declared.tree.Element.TheOpen.{Element-F}
 use Rattle.doc_tree.specs.declared.tree.Element.TheViews.{out-roll-Element}
-use Rattle.doc_attributes.specs.Names.{is_name}
+use Rattle.doc_tree.specs.Attributes.{is_name}
 use Rattle.doc_read.specs.Document.{document}
 use Rattle.doc_read.specs.Element.{tree}
 use Rattle.doc_read.proofs.Again.{same_bytes}
@@ -31,8 +31,8 @@ use Rattle.filter_laws.proofs.Literals.{AreTexts}
 use Rattle.wfs_model.specs.declared.fault.AskFault.{AskFault}
 use Rattle.wfs_model.specs.declared.fault.AskFault.TheVariants.{OutOfMemory}
 use Rattle.wfs_model.specs.declared.stored.StoredQuery.{StoredQuery}
-use Rattle.request_terms.specs.Said.{or_fault, required_of}
-use Rattle.request_terms.specs.Elements.{said_at, is_wfs, no_others, misplaced, no_children}
+use Rattle.request_parameters.specs.Said.{or_fault, required_of}
+use Rattle.request_parameters.specs.Elements.{said_at, is_wfs, no_others, misplaced, no_children}
 use Rattle.query_docs.specs.Elements.{children_of, text_alone}
 use Rattle.query_docs.specs.Queries.{query_of}
 use Rattle.query_docs.specs.Asked.{name_of}

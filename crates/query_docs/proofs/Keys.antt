@@ -25,7 +25,7 @@ use Rattle.filter_laws.proofs.Literals.{AreTexts}
 use Rattle.filter_laws.proofs.Schemas.{can_be_written}
 use Rattle.filter_laws.proofs.Predicates.{group_stands, reference_stands, leaf_stands}
 use Rattle.wfs_model.specs.declared.fault.AskFault.{AskFault}
-use Rattle.request_terms.specs.Elements.{no_others, misplaced, no_children, text_in}
+use Rattle.request_parameters.specs.Elements.{no_others, misplaced, no_children, text_in}
 use Rattle.query_docs.specs.Elements.{children_of, text_alone}
 use Rattle.query_docs.specs.Sorting.{key_of, sortable, sorted_by, order_word, order_of, key_with, key_in, sort_key, next_key, keys_of}
 use Rattle.query_docs.specs.Texts.{order_trees, key_tree, query_prefixes}

@@ -8,7 +8,7 @@ use Rattle.feature_values.specs.declared.schema.Schema.{Schema}
 use Rattle.wfs_model.specs.declared.fault.AskFault.{AskFault}
 use Rattle.wfs_model.specs.declared.request.Request.{Request}
 use Rattle.wfs_model.specs.OfSchema.{stored_in}
-use Rattle.request_terms.specs.Said.{Ask}
+use Rattle.request_parameters.specs.Said.{Ask}
 use Rattle.query_docs.specs.Reading.{IsKeptText}
 
 -- what is read, if anything is, makes none

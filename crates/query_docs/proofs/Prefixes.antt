@@ -22,7 +22,7 @@ use Rattle.feature_schema.specs.Rules.{IsLine, KeepsRules}
 use Rattle.fes_docs.specs.Names.{fes_space}
 use Rattle.fes_docs.proofs.Parts.{fes}
 use Rattle.filter_laws.proofs.Schemas.{line_meant, prefix_name}
-use Rattle.request_terms.specs.Elements.{wfs_space}
+use Rattle.request_parameters.specs.Elements.{wfs_space}
 use Rattle.query_docs.specs.Texts.{query_prefixes}
 
 not_true : (b : Bool) → not b ≡ true → b ≡ false

@@ -15,8 +15,8 @@ use Rattle.doc_tree.specs.declared.tree.Element.TheOpen.{Element-F}
 use Rattle.doc_tree.specs.declared.tree.Element.TheViews.{out-roll-Element}
 use Rattle.doc_tree.specs.declared.tree.Prefixes.{Prefixes}
 use Rattle.doc_tree.specs.Tree.{prefixed}
-use Rattle.doc_attributes.specs.Names.{is_name}
-use Rattle.doc_attributes.specs.Others.{is_other}
+use Rattle.doc_tree.specs.Attributes.{is_name}
+use Rattle.doc_tree.specs.Others.{is_other}
 use Rattle.doc_read.specs.declared.lex.Class.TheVariants.{NamePart}
 use Rattle.doc_read.specs.Chars.{holds}
 use Rattle.doc_read.specs.Scope.{has_twins}
@@ -46,9 +46,9 @@ use Rattle.filter_laws.proofs.Schemas.{prefix_name, type_is, type_named as type_
 use Rattle.filter_laws.proofs.Texts.{schema_name}
 use Rattle.filter_laws.proofs.Operators.{filter_stands}
 use Rattle.wfs_model.specs.declared.fault.AskFault.{AskFault}
-use Rattle.request_terms.specs.Said.{required_of, kind_of}
-use Rattle.request_terms.specs.Base.{srs_of}
-use Rattle.request_terms.specs.Elements.{said_at, wfs_space, is_wfs, no_others, misplaced}
+use Rattle.request_parameters.specs.Said.{required_of, kind_of}
+use Rattle.request_parameters.specs.Base.{srs_of}
+use Rattle.request_parameters.specs.Elements.{said_at, wfs_space, is_wfs, no_others, misplaced}
 use Rattle.query_docs.specs.Elements.{children_of, not_offered, or_refusal}
 use Rattle.query_docs.specs.Sorting.{keys_of}
 use Rattle.query_docs.specs.Queries.{is_inner, behind, is_several, type_of, query_others, no_clauses, with_filter, with_sort, next_clause, or_no_keys, query_of}

@@ -34,9 +34,9 @@ use Rattle.wfs_model.specs.declared.fault.AskFault.TheVariants.{OutOfMemory}
 use Rattle.wfs_model.specs.declared.stored.StoredQuery.{StoredQuery}
 use Rattle.wfs_model.specs.Expand.{is_same_name}
 use Rattle.wfs_model.specs.OfSchema.{IsType, IsFilterOf, IsSortKeyOf, IsQueryOf, IsStoredOf}
-use Rattle.request_terms.specs.Said.{or_fault, required_of, kind_of}
-use Rattle.request_terms.specs.Base.{srs_of}
-use Rattle.request_terms.specs.Elements.{said_at, wfs_space, is_wfs, no_others, misplaced, no_children, text_in}
+use Rattle.request_parameters.specs.Said.{or_fault, required_of, kind_of}
+use Rattle.request_parameters.specs.Base.{srs_of}
+use Rattle.request_parameters.specs.Elements.{said_at, wfs_space, is_wfs, no_others, misplaced, no_children, text_in}
 use Rattle.query_docs.specs.Elements.{children_of, text_alone, not_offered, or_refusal}
 use Rattle.query_docs.specs.Sorting.{sortable, sorted_by, order_of, key_with, key_in, sort_key, next_key, keys_of}
 use Rattle.query_docs.specs.Queries.{type_of, query_others, no_clauses, with_filter, with_sort, next_clause, or_no_keys, query_of, is_several}
@@ -48,7 +48,7 @@ use Rattle.query_docs.specs.declared.fault.StoredTextFault.{StoredTextFault}
 use Rattle.query_docs.specs.declared.fault.StoredTextFault.TheVariants.{BadText, OutOfMemory as NoMemory}
 use Rattle.query_docs.specs.declared.query.Clauses.{Clauses}
 use Rattle.query_docs.specs.declared.definition.Parts.{Parts}
-use Rattle.request_terms.proofs.Named.{is_type}
+use Rattle.request_parameters.proofs.Named.{is_type}
 use Rattle.query_docs.proofs.Within.{count_of, filter_within}
 
 -- ---- readings that did not fail

@@ -48,7 +48,7 @@ use Rattle.fes_docs.proofs.Named.{and_then_some, map_some, first_named}
 use Rattle.fes_docs.proofs.Children.{HoldAll, by_children}
 use Rattle.fes_docs.proofs.Readings.{operator_is}
 use Rattle.fes_docs.proofs.Parts.{enough, through, all_through}
-use Rattle.request_terms.proofs.Named.{is_type}
+use Rattle.request_parameters.proofs.Named.{is_type}
 use Rattle.wfs_model.specs.OfSchema.{IsType, known_id, id_place, ids_step, places_step, places_in}
 use Rattle.wfs_model.specs.OfSchema.{place_of as expr_places, ids_in as features_in}
 

@@ -9,8 +9,8 @@ use Rattle.wfs_model.specs.declared.asked.Asked.{Asked}
 use Rattle.wfs_model.specs.declared.asked.Asked.TheVariants.{Plain, Stored}
 use Rattle.wfs_model.specs.OfSchema.{IsQueryOf, query_in, names_given}
 use Rattle.wfs_model.specs.Terms.{refused}
-use Rattle.request_terms.specs.Said.{Ask, required_of}
-use Rattle.request_terms.specs.Elements.{said_at, is_wfs, no_others, misplaced, text_in}
+use Rattle.request_parameters.specs.Said.{Ask, required_of}
+use Rattle.request_parameters.specs.Elements.{said_at, is_wfs, no_others, misplaced, text_in}
 use Rattle.query_docs.specs.Elements.{children_of}
 use Rattle.query_docs.specs.Queries.{query_of}
 

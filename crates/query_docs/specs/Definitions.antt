@@ -11,8 +11,8 @@ use Rattle.fes_filter.specs.declared.query.Query.{Query}
 use Rattle.wfs_model.specs.declared.stored.StoredQuery.{StoredQuery}
 use Rattle.wfs_model.specs.Expand.{is_same_name}
 use Rattle.wfs_model.specs.Terms.{refused}
-use Rattle.request_terms.specs.Said.{Ask, or_fault, required_of, passing}
-use Rattle.request_terms.specs.Elements.{said_at, is_wfs, no_others, misplaced, no_children}
+use Rattle.request_parameters.specs.Said.{Ask, or_fault, required_of, passing}
+use Rattle.request_parameters.specs.Elements.{said_at, is_wfs, no_others, misplaced, no_children}
 use Rattle.query_docs.specs.Elements.{children_of, text_alone}
 use Rattle.query_docs.specs.Queries.{query_of}
 use Rattle.query_docs.specs.Asked.{name_of}

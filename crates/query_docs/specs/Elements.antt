@@ -6,8 +6,8 @@ use Rattle.fes_docs.specs.Names.{refusal_of}
 use Rattle.fes_docs.specs.declared.fault.FilterDocFault.{FilterDocFault}
 use Rattle.wfs_model.specs.Terms.{refused}
 use Rattle.wfs_model.specs.declared.fault.AskFault.{AskFault}
-use Rattle.request_terms.specs.Said.{Ask}
-use Rattle.request_terms.specs.Elements.{no_others, text_in}
+use Rattle.request_parameters.specs.Said.{Ask}
+use Rattle.request_parameters.specs.Elements.{no_others, text_in}
 
 abbrev pub children_of : Element → List Element
 children_of e = (out-Element e).children

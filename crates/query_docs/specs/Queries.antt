@@ -12,9 +12,9 @@ use Rattle.fes_filter.specs.declared.query.SortKey.{SortKey}
 use Rattle.fes_docs.specs.Names.{is_fes}
 use Rattle.fes_docs.specs.Filters.{filter_of}
 use Rattle.wfs_model.specs.Terms.{refused}
-use Rattle.request_terms.specs.Said.{Ask, required_of, kind_of}
-use Rattle.request_terms.specs.Base.{srs_of}
-use Rattle.request_terms.specs.Elements.{said_at, is_wfs, no_others, misplaced}
+use Rattle.request_parameters.specs.Said.{Ask, required_of, kind_of}
+use Rattle.request_parameters.specs.Base.{srs_of}
+use Rattle.request_parameters.specs.Elements.{said_at, is_wfs, no_others, misplaced}
 use Rattle.query_docs.specs.Elements.{children_of, not_offered, or_refusal}
 use Rattle.query_docs.specs.Sorting.{keys_of}
 use Rattle.query_docs.specs.declared.query.Clauses.{Clauses}

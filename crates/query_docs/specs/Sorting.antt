@@ -9,8 +9,8 @@ use Rattle.fes_filter.specs.Check.{property_in, is_shape}
 use Rattle.fes_filter.specs.declared.query.SortKey.{SortKey}
 use Rattle.fes_docs.specs.Names.{is_fes}
 use Rattle.wfs_model.specs.Terms.{refused}
-use Rattle.request_terms.specs.Said.{Ask, or_fault}
-use Rattle.request_terms.specs.Elements.{no_others, misplaced, no_children}
+use Rattle.request_parameters.specs.Said.{Ask, or_fault}
+use Rattle.request_parameters.specs.Elements.{no_others, misplaced, no_children}
 use Rattle.query_docs.specs.Elements.{children_of, text_alone}
 
 abbrev pub key_of : ℕ → Bool → SortKey

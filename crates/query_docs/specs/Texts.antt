@@ -15,7 +15,7 @@ use Rattle.fes_filter.specs.declared.query.Query.{Query}
 use Rattle.fes_filter.specs.declared.query.SortKey.{SortKey}
 use Rattle.fes_docs.specs.Names.{fes_space}
 use Rattle.fes_docs.specs.Written.{leaf, parent, attribute, reference, type_name, filter_tree}
-use Rattle.request_terms.specs.Elements.{wfs_space}
+use Rattle.request_parameters.specs.Elements.{wfs_space}
 
 -- ---- one query as an element
 

@@ -9,7 +9,7 @@ use crate::query::query_of;
 use crate::seen::{Seen, none_seen, note};
 use doc_tree::Element;
 use feature_values::Schema;
-use request_terms::{Attributes, is_wfs, misplaced, no_others, required_of, text_in};
+use request_parameters::{Attributes, is_wfs, misplaced, no_others, required_of, text_in};
 use std::alloc::Global;
 use wfs_ends::{List, Mem, Text};
 use wfs_model::{AskFault, Asked, refused};

@@ -18,7 +18,7 @@ use crate::text::text_of;
 use doc_tree::Element;
 use feature_values::Schema;
 use fes_filter::Query;
-use request_terms::{Attributes, Given, is_wfs, misplaced, no_others, required_of};
+use request_parameters::{Attributes, Given, is_wfs, misplaced, no_others, required_of};
 use std::alloc::Global;
 use wfs_ends::{List, Mem, Text};
 use wfs_model::{AskFault, StoredQuery, refused};

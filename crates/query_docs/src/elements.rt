@@ -2,28 +2,15 @@
 
 ghost use Rattle.std.specs.Prelude.{◌≡◌, map};
 ghost use Rattle.wfs_ends.specs.Read.{GivesBut};
-ghost use Rattle.fes_docs.specs.Names.{is_fes};
-ghost use Rattle.request_terms.specs.Elements.{said_at, no_children};
+ghost use Rattle.request_parameters.specs.Elements.{said_at, no_children};
 ghost use Rattle.query_docs.specs.Elements.{text_alone, not_offered, refusal_by};
 
-use doc_attributes::is_name;
-use doc_tree::Element;
+use doc_tree::{Element, is_name};
 use fes_docs::FilterDocFault;
-use request_terms::{Attributes, Given, misplaced, no_others, text_in};
+use request_parameters::{Attributes, Given, misplaced, no_others, text_in};
 use std::alloc::Global;
 use wfs_ends::Text;
 use wfs_model::{AskFault, refused};
-
-// The namespace of FES 2.0.
-pub(crate) const FES: &str = "http://www.opengis.net/fes/2.0";
-
-// Whether an element is FES's of this local name.
-#[tactic(auto, unfolding(fes_docs::specs::Names::is_fes))]
-pub(crate) fn is_fes(element: &Element, local: &str) -> bool
-    ensures { result ≡ is_fes local.now element.now }
-{
-    is_name(&element.name, FES, local)
-}
 
 // Refuses elements where none is allowed.
 pub(crate) fn no_children(alloc: Global, elements: &[Element]) -> Result<(), AskFault>

@@ -9,13 +9,13 @@ ghost use Rattle.fes_docs.specs.Filters.{filter_of};
 ghost use Rattle.query_docs.specs.Elements.{or_refusal};
 ghost use Rattle.query_docs.specs.Queries.{behind, is_inner, is_several, type_of, query_others, no_clauses, with_filter, with_sort, next_clause, or_no_keys, query_of};
 
-use crate::elements::{is_fes, not_offered, refusal_by};
+use crate::elements::{not_offered, refusal_by};
 use crate::sorting::keys_of;
 use doc_tree::Element;
 use feature_values::Schema;
-use fes_docs::{FilterDocFault, read_filter, read_filter_in};
+use fes_docs::{FilterDocFault, is_fes, read_filter, read_filter_in};
 use fes_filter::{Filter, Query, SortKey, type_in};
-use request_terms::{Attributes, Given, is_wfs, kind_of, misplaced, no_others, srs_of};
+use request_parameters::{Attributes, Given, is_wfs, kind_of, misplaced, no_others, srs_of};
 use std::alloc::Global;
 use wfs_ends::{List, Text};
 use wfs_model::{AskFault, refused};
@@ -55,7 +55,7 @@ fn is_several(text: &str) -> bool
 }
 
 // The type whose features are asked for.
-#[tactic(auto, unfolding(crate::specs::Queries::type_of, request_terms::specs::Said::required_of, wfs_ends::specs::Read::unless))]
+#[tactic(auto, unfolding(crate::specs::Queries::type_of, request_parameters::specs::Said::required_of, wfs_ends::specs::Read::unless))]
 fn type_of(alloc: Global, schema: &Schema, element: &Element) -> Result<u32, AskFault>
     ensures { GivesBut AskFault.OutOfMemory (λ x. x) result (type_of schema.now element.now) }
 {

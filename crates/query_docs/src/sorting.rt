@@ -5,11 +5,12 @@ ghost use Rattle.std.specs.Option.{option_copied};
 ghost use Rattle.wfs_ends.specs.Read.{GivesBut, each};
 ghost use Rattle.query_docs.specs.Sorting.{sortable, sorted_by, order_word, order_of, key_with, key_in, sort_key, next_key, keys_of};
 
-use crate::elements::{is_fes, no_children, text_alone};
+use crate::elements::{no_children, text_alone};
 use doc_tree::Element;
 use feature_values::{FeatureType, ValueKind};
+use fes_docs::is_fes;
 use fes_filter::{SortKey, is_shape, property_in};
-use request_terms::{misplaced, no_others};
+use request_parameters::{misplaced, no_others};
 use std::alloc::Global;
 use wfs_ends::{List, Mem};
 use wfs_model::{AskFault, refused};

@@ -8,18 +8,14 @@ ghost use Rattle.fes_filter.specs.Check.{type_in};
 ghost use Rattle.fes_docs.specs.Written.{element, leaf, parent, attribute, property_name, reference, type_name};
 ghost use Rattle.query_docs.specs.Texts.{order_trees, key_tree, sort_trees, filter_trees, query_tree, query_prefixes};
 
-use crate::elements::FES;
 use doc_tree::{Attribute, Element, Prefixes, QName};
 use feature_values::{FeatureType, Schema};
-use fes_docs::filter_tree_in;
+use fes_docs::{FES, filter_tree_in};
 use fes_filter::{Filter, Query, SortKey, type_in};
+use gml_docs::GML;
+use request_parameters::WFS;
 use std::alloc::Global;
 use wfs_ends::{List, Mem, Text};
-
-// The namespaces of the Web Feature Service 2.0 and of GML 3.2.
-const WFS: &str = "http://www.opengis.net/wfs/2.0";
-
-const GML: &str = "http://www.opengis.net/gml/3.2";
 
 // ---- names and elements
 

@@ -7,12 +7,12 @@ ghost use Rattle.wfs_model.specs.Stored.{is_id_query};
 ghost use Rattle.reply_documents.specs.Features.{truth_text};
 ghost use Rattle.reply_documents.specs.StoredQueries.{some_title_text, title_text, is_plain, some_named_text, inside_named_text, named_text, parameter_text, some_expression_text, expression_text, whole_text, declared_text, some_named_list, named_list, stored_list_body, some_whole_list, whole_list, stored_texts_body};
 
-use crate::stored_types::{is_id_query, put_return_types};
+use crate::stored_types::put_return_types;
 use crate::value::put_truth;
 use doc_tree::{put_escaped, put_plain};
 use feature_values::Schema;
 use wfs_ends::{List, Sink, Text, put_on};
-use wfs_model::StoredQuery;
+use wfs_model::{StoredQuery, is_id_query};
 
 // The starts of both documents (OGC 09-025r2, 14.3 and 14.4).
 const LIST_START: &[u8] =

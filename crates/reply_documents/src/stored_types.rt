@@ -11,16 +11,7 @@ use doc_tree::put_plain;
 use feature_values::{FeatureType, Schema};
 use fes_filter::{Query, type_in};
 use wfs_ends::{Sink, put_on};
-use wfs_model::StoredQuery;
-
-// Whether an identifier is one of the two names of the built-in query (OGC 09-025r2, 7.9.3.6).
-#[tactic(auto, unfolding(wfs_model::specs::Stored::is_id_query))]
-pub(crate) fn is_id_query(id: &str) -> bool
-    ensures { result ≡ is_id_query id.now }
-{
-    id == "urn:ogc:def:query:OGC-WFS::GetFeatureById"
-        || id == "http://www.opengis.net/def/query/OGC-WFS/0/GetFeatureById"
-}
+use wfs_model::{StoredQuery, is_id_query};
 
 // Whether two queries ask for the same type.
 fn is_same_kind(a: Option<u32>, b: Option<u32>) -> bool

@@ -2,8 +2,8 @@
 
 use crate::marks::schema;
 use feature_values::Schema;
+use http_requests::{read_asked, size_of, split_target};
 use http_session::{Message, Next, Reader};
-use message_asks::{read_asked, size_of, split_target};
 use std::alloc::Global;
 use std::test::Fail;
 use wfs_ends::{Mem, MemLink};

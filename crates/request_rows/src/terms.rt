@@ -4,7 +4,7 @@
 use crate::marks::schema;
 use doc_tree::{Attribute, Element, QName};
 use feature_values::Schema;
-use request_terms::{
+use request_parameters::{
     Attributes, Operation, Page, dropped_of, format_of, is_wfs, kind_of, lock_of, locked_page_of,
     misplaced, negotiated, no_others, operation_of, page_of, period_of, queried_of, release_of,
     required_of, service_of, srs_of, take_of, text_in, value_of, version_of,

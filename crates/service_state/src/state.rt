@@ -22,10 +22,7 @@ use std::marker::{Brand, Model};
 use std::sync::ledger::{Blank, Ledger};
 use stored_queries::answer;
 use wfs_ends::Mem;
-use wfs_model::{FullAt, LimitName, Limits, Reply, Request};
-
-// A moment that is handed in counts as this one at the most.
-const LAST_MOMENT: u64 = 200_000_000_000;
+use wfs_model::{FullAt, LAST_MOMENT, LimitName, Limits, Reply, Request};
 
 /// The service's state in memory. Contracts see it as the schema that it serves, the state, and for how much more there is room.
 #[derive(Drop)]

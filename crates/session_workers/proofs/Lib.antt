@@ -1,6 +1,1 @@
-pub mod Answering
-pub mod Failures
-pub mod Rounds
-pub mod Sessions
-pub mod Stores
-pub mod Tallies
+pub mod Links

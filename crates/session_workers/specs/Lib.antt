@@ -1,6 +1,2 @@
-pub mod Answers
-pub mod Became
-pub mod Rounds
-pub mod Session
-pub mod Solo
-pub mod Told
+pub mod Working
+pub mod Workers

@@ -1,20 +1,12 @@
-//! How a session ended.
+//! How a worker ended.
 
-/// How a session ended.
+/// How a worker ended.
 #[derive(Clone, Copy, Debug, PartialEq, Eq)]
-pub enum SessionEnd {
-    /// The input was read to its end.
-    Ended,
-    /// An answer closed the session, as the message or the limit of messages asked for.
-    Closed,
-    /// A refusal closed the session, since where the next message begins is not known.
-    Unframed,
-    /// The input ended within a message.
-    Cut,
-    /// The input failed.
-    ReadFault,
-    /// The output failed.
-    WriteFault,
-    /// Memory ran out while a message was read.
-    NoMemory,
+pub enum WorkerEnd {
+    /// It had as many links as it may have.
+    LimitReached,
+    /// No link was left.
+    NoMore,
+    /// The acceptor failed.
+    AcceptFault,
 }

@@ -1,23 +1,19 @@
-//! A session: message after message of a connection is read, judged by a service, and answered.
+//! Workers: each takes one link after the other from its acceptor, holds a session over it, and finishes it.
 //!
-//! `session` holds one over a link, for any service that judges messages. What the service is, a list in memory, a store
-//! or a store under a turn, its `Service` says: the session gives it each message with its moment, and writes what it answers.
+//! `work` does so for any service that judges messages, and `run_workers` for several services at once, each in a thread of
+//! its own. What the services have in common, as a store under a turn, they know themselves.
 #![tactic(auto)]
 
-mod answered;
 mod ending;
-mod gate;
-mod hold;
-mod round;
-mod service;
-mod solo;
+mod run;
+mod visit;
+mod worker;
+mod working;
 
-pub use answered::Answered;
-pub use ending::SessionEnd;
-pub use gate::{Gate, GatePoint, NoGate};
-pub use hold::session;
-pub use service::Service;
-pub use solo::{answer_of, solo_session};
+pub use ending::WorkerEnd;
+pub use run::run_workers;
+pub use worker::Worker;
+pub use working::work;
 
 #[cfg(test)]
 mod tests;

@@ -1,23 +1,25 @@
-//! Sessions of a service that answers by the moment alone. What is expected is written from the formats' own words.
+//! Workers of a service that answers by the moment alone. What is expected is written from the formats' own words.
 
-use crate::{Answered, Gate, GatePoint, NoGate, Service, SessionEnd, session};
+use crate::{Worker, WorkerEnd, run_workers, work};
 use feature_values::Schema;
-use http_session::{Message, Reader};
+use http_session::Message;
+use service_doors::MemAcceptor;
+use service_session::{Answered, Gate, NoGate, Service};
 use std::alloc::Global;
 use std::test::Fail;
-use wfs_ends::{Buffer, List, ListClock, Mem, MemLink, Text};
+use std::thread::Threads;
+use wfs_ends::{List, ListClock, Mem, MemLink, Text};
 use wfs_model::Reply;
 
-// Answers by the moment alone, and counts the messages that it judged.
+// Answers that it is created at the moment 0, and that it is full at any other.
 #[derive(Drop)]
 struct Clerk {
     schema: Schema,
-    judged: u64,
 }
 
 impl Service for Clerk {
     ghost use Rattle.std.proofs.Common.{◌≡◌, refl, ◌∙◌};
-    ghost use Rattle.session_workers.specs.declared.answered.Answered.TheVariants as answered;
+    ghost use Rattle.service_session.specs.declared.answered.Answered.TheVariants as answered;
 
     ghost schema = { λ c. c.schema };
 
@@ -39,134 +41,99 @@ impl Service for Clerk {
         _message: &Message,
         _is_last: bool,
         moment: u64,
-        gate: &mut G,
+        _gate: &mut G,
     ) -> Answered {
-        gate.reach(GatePoint::InTurn);
-        self.judged = self.judged.saturating_add(1);
-        match moment {
-            0 => Answered::Reply(Reply::Created),
-            1 => Answered::Full,
-            2 => Answered::StoreFault,
-            _ => Answered::OutOfMemory,
+        if moment == 0 {
+            Answered::Reply(Reply::Created)
+        } else {
+            Answered::Full
         }
     }
 }
 
-// Counts the points at which it is reached.
-#[derive(Drop)]
-struct Counts {
-    in_turn: u64,
-    before_answer: u64,
-}
-
-impl Gate for Counts {
-    fn reach(&mut self, point: GatePoint) {
-        match point {
-            GatePoint::InTurn => self.in_turn = self.in_turn.saturating_add(1),
-            GatePoint::BeforeAnswer => {
-                self.before_answer = self.before_answer.saturating_add(1);
-            }
-        }
-    }
-}
-
-// A schema of no feature types.
-fn no_types(alloc: Global) -> Mem<Schema> {
-    Ok(Schema {
+// A clerk with a schema of no feature types.
+fn new_clerk(alloc: Global) -> Mem<Clerk> {
+    let schema = Schema {
         title: Text::of(alloc, "Marks")?,
         address: Text::of(alloc, "http://localhost:8080/wfs")?,
         space: Text::of(alloc, "http://example.org/marks")?,
         prefix: Text::of(alloc, "m")?,
         srs: List::of(Vec::new(alloc)),
         types: List::of(Vec::new(alloc)),
-    })
+    };
+    Ok(Clerk { schema })
 }
 
-// Holds a session of a clerk at the moments 0, 1, 2 and 3.
-fn hold<G: Gate>(
-    alloc: Global,
-    clerk: &mut Clerk,
-    link: &mut MemLink,
-    gate: &mut G,
-) -> Mem<SessionEnd> {
-    let moments = Vec::from_slice(alloc, &[0, 1, 2, 3])?;
-    let mut reader = Reader::new(alloc)?;
-    let mut buffer = Buffer::new(alloc)?;
-    let mut clock = ListClock::new(moments);
-    Ok(session(
-        alloc,
-        clerk,
-        link,
-        &mut clock,
-        gate,
-        &mut reader,
-        &mut buffer,
-    ))
-}
+const GET: &str = "GET / HTTP/1.1\r\nHost: h\r\n\r\n";
 
-// An input, the takes that fail, the room of the output, the end, how many messages are judged, and the output.
+const CREATED: &str =
+    "HTTP/1.1 200 OK\r\nContent-Type: text/xml\r\nContent-Length: 125\r\n\r\n<?xml version=\"1.0\" encoding=\"UTF-8\"?><wfs:CreateStoredQueryResponse xmlns:wfs=\"http://www.opengis.net/wfs/2.0\" status=\"OK\"/>";
+
+const FULL: &str =
+    "HTTP/1.1 503 Service Unavailable\r\nContent-Type: text/xml\r\nContent-Length: 262\r\n\r\n<?xml version=\"1.0\" encoding=\"UTF-8\"?><ows:ExceptionReport xmlns:ows=\"http://www.opengis.net/ows/1.1\" version=\"2.0.2\"><ows:Exception exceptionCode=\"NoApplicableCode\" locator=\"full\"><ows:ExceptionText>full</ows:ExceptionText></ows:Exception></ows:ExceptionReport>";
+
+// Which takes of the first of two links fail, which calls of accept fail, the limit, the end, and what each link was given.
 type Row = (
-    &'static str,
     &'static [u64],
-    u64,
-    SessionEnd,
-    u64,
+    &'static [u64],
+    Option<u32>,
+    WorkerEnd,
+    &'static str,
     &'static str,
 );
 
 static ROWS: [Row; 6] = [
-    (
-        "GET / HTTP/1.1\r\nHost: h\r\n\r\nGET / HTTP/1.1\r\nHost: h\r\n\r\nGET / HTTP/1.1\r\nHost: h\r\n\r\nGET / HTTP/1.1\r\nHost: h\r\nConnection: close\r\n\r\nGET / HTTP/1.1\r\nHost: h\r\n\r\n",
-        &[],
-        9000,
-        SessionEnd::Closed,
-        4,
-        "HTTP/1.1 200 OK\r\nContent-Type: text/xml\r\nContent-Length: 125\r\n\r\n<?xml version=\"1.0\" encoding=\"UTF-8\"?><wfs:CreateStoredQueryResponse xmlns:wfs=\"http://www.opengis.net/wfs/2.0\" status=\"OK\"/>HTTP/1.1 503 Service Unavailable\r\nContent-Type: text/xml\r\nContent-Length: 262\r\n\r\n<?xml version=\"1.0\" encoding=\"UTF-8\"?><ows:ExceptionReport xmlns:ows=\"http://www.opengis.net/ows/1.1\" version=\"2.0.2\"><ows:Exception exceptionCode=\"NoApplicableCode\" locator=\"full\"><ows:ExceptionText>full</ows:ExceptionText></ows:Exception></ows:ExceptionReport>HTTP/1.1 500 Internal Server Error\r\nContent-Type: text/xml\r\nContent-Length: 270\r\n\r\n<?xml version=\"1.0\" encoding=\"UTF-8\"?><ows:ExceptionReport xmlns:ows=\"http://www.opengis.net/ows/1.1\" version=\"2.0.2\"><ows:Exception exceptionCode=\"NoApplicableCode\" locator=\"store\"><ows:ExceptionText>store fault</ows:ExceptionText></ows:Exception></ows:ExceptionReport>HTTP/1.1 503 Service Unavailable\r\nContent-Type: text/xml\r\nContent-Length: 269\r\nConnection: close\r\n\r\n<?xml version=\"1.0\" encoding=\"UTF-8\"?><ows:ExceptionReport xmlns:ows=\"http://www.opengis.net/ows/1.1\" version=\"2.0.2\"><ows:Exception exceptionCode=\"NoApplicableCode\" locator=\"memory\"><ows:ExceptionText>no memory</ows:ExceptionText></ows:Exception></ows:ExceptionReport>",
-    ),
-    ("", &[], 9000, SessionEnd::Ended, 0, ""),
-    ("GET / HTTP/1.1\r\n", &[], 9000, SessionEnd::Cut, 0, ""),
-    (
-        "GET / HTTP/1.1\r\nHost: h\r\n\r\nGET /\r\n",
-        &[],
-        9000,
-        SessionEnd::Unframed,
-        1,
-        "HTTP/1.1 200 OK\r\nContent-Type: text/xml\r\nContent-Length: 125\r\n\r\n<?xml version=\"1.0\" encoding=\"UTF-8\"?><wfs:CreateStoredQueryResponse xmlns:wfs=\"http://www.opengis.net/wfs/2.0\" status=\"OK\"/>HTTP/1.1 400 Bad Request\r\nContent-Type: text/xml\r\nContent-Length: 280\r\nConnection: close\r\n\r\n<?xml version=\"1.0\" encoding=\"UTF-8\"?><ows:ExceptionReport xmlns:ows=\"http://www.opengis.net/ows/1.1\" version=\"2.0.2\"><ows:Exception exceptionCode=\"OperationParsingFailed\" locator=\"head\"><ows:ExceptionText>bad message head</ows:ExceptionText></ows:Exception></ows:ExceptionReport>",
-    ),
-    (
-        "GET / HTTP/1.1\r\nHost: h\r\n\r\n",
-        &[0],
-        9000,
-        SessionEnd::ReadFault,
-        0,
-        "",
-    ),
-    (
-        "GET / HTTP/1.1\r\nHost: h\r\n\r\n",
-        &[],
-        12,
-        SessionEnd::WriteFault,
-        1,
-        "HTTP/1.1 200",
-    ),
+    (&[], &[], None, WorkerEnd::NoMore, CREATED, FULL),
+    (&[0], &[], None, WorkerEnd::NoMore, "", CREATED),
+    (&[], &[], Some(2), WorkerEnd::LimitReached, CREATED, FULL),
+    (&[], &[], Some(1), WorkerEnd::LimitReached, CREATED, ""),
+    (&[], &[0], Some(0), WorkerEnd::LimitReached, "", ""),
+    (&[], &[1], None, WorkerEnd::AcceptFault, CREATED, ""),
 ];
 
-// Whether a session over the input of a row comes to what the row says.
-fn is_so(alloc: Global, row: &Row) -> Mem<bool> {
-    let (input, failing, room, end, judged, output) = *row;
-    let mut clerk = Clerk {
-        schema: no_types(alloc)?,
-        judged: 0,
-    };
-    let mut link = MemLink::new(
+// A link of one message.
+fn one_message(alloc: Global, failing: &[u64]) -> Mem<MemLink> {
+    MemLink::new(
         alloc,
-        Vec::from_slice(alloc, input.as_bytes())?,
-        room,
+        Vec::from_slice(alloc, GET.as_bytes())?,
+        9000,
         Vec::from_slice(alloc, failing)?,
         Vec::new(alloc),
-    )?;
-    let found = hold(alloc, &mut clerk, &mut link, &mut NoGate)?;
-    Ok(found == end && clerk.judged == judged && link.written() == output.as_bytes())
+    )
+}
+
+// An acceptor of two links of one message each.
+fn two_links(alloc: Global, takes: &[u64], accepts: &[u64]) -> Mem<MemAcceptor> {
+    let links = vec![in alloc; one_message(alloc, takes)?, one_message(alloc, &[])?]?;
+    Ok(MemAcceptor::new(links, Vec::from_slice(alloc, accepts)?))
+}
+
+// A clock at the moments 0 and 1.
+fn two_moments(alloc: Global) -> Mem<ListClock> {
+    Ok(ListClock::new(Vec::from_slice(alloc, &[0, 1])?))
+}
+
+// Whether two links were given this.
+fn are_given(links: &[MemLink], first: &str, second: &str) -> bool {
+    match links {
+        [a, b] => a.written() == first.as_bytes() && b.written() == second.as_bytes(),
+        _ => false,
+    }
+}
+
+// Whether a worker comes to what a row says.
+fn is_so(alloc: Global, row: &Row) -> Mem<bool> {
+    let (takes, accepts, limit, end, first, second) = *row;
+    let mut acceptor = two_links(alloc, takes, accepts)?;
+    let found = end_of(alloc, &mut acceptor, limit)?;
+    Ok(found == end && are_given(acceptor.links(), first, second))
+}
+
+// How a worker over these links ends.
+fn end_of(alloc: Global, acceptor: &mut MemAcceptor, limit: Option<u32>) -> Mem<WorkerEnd> {
+    let mut clerk = new_clerk(alloc)?;
+    let mut clock = two_moments(alloc)?;
+    Ok(work(alloc, &mut clerk, acceptor, limit, &mut clock, &mut NoGate))
 }
 
 // The first row that comes to something else.
@@ -180,35 +147,37 @@ fn first_wrong(alloc: Global) -> Mem<Option<usize>> {
 }
 
 #[test]
-fn sessions_come_to_their_ends(rt: HostRuntime) -> Result<(), Fail> {
+fn workers_come_to_their_ends(rt: HostRuntime) -> Result<(), Fail> {
     assert_eq!(rt; first_wrong(rt.alloc()), Ok(None));
     Ok(())
 }
 
-// How often a gate is reached in the first row's session: in the service's turn, and before an answer.
-fn reached(alloc: Global) -> Mem<(u64, u64)> {
-    let (input, ..) = ROWS[0];
-    let mut clerk = Clerk {
-        schema: no_types(alloc)?,
-        judged: 0,
-    };
-    let mut link = MemLink::new(
-        alloc,
-        Vec::from_slice(alloc, input.as_bytes())?,
-        0,
-        Vec::new(alloc),
-        Vec::new(alloc),
-    )?;
-    let mut gate = Counts {
-        in_turn: 0,
-        before_answer: 0,
-    };
-    hold(alloc, &mut clerk, &mut link, &mut gate)?;
-    Ok((gate.in_turn, gate.before_answer))
+// A worker of two links.
+fn new_worker(alloc: Global) -> Mem<Worker<Clerk, MemAcceptor, ListClock, NoGate>> {
+    Ok(Worker {
+        service: new_clerk(alloc)?,
+        acceptor: two_links(alloc, &[], &[])?,
+        clock: two_moments(alloc)?,
+        gate: NoGate,
+        end: None,
+    })
+}
+
+// Whether a worker ended with a limit of two, and both its links were served.
+fn has_served(worker: &Worker<Clerk, MemAcceptor, ListClock, NoGate>) -> bool {
+    worker.end == Some(WorkerEnd::LimitReached) && are_given(worker.acceptor.links(), CREATED, FULL)
+}
+
+// Whether two workers in threads of their own serve all their links.
+fn both_serve<R: Threads + Sync>(rt: &R, alloc: Global) -> Mem<bool> {
+    let mut workers = [new_worker(alloc)?, new_worker(alloc)?];
+    run_workers(rt, alloc, Some(2), &mut workers);
+    let [a, b] = &workers;
+    Ok(has_served(a) && has_served(b))
 }
 
 #[test]
-fn a_gate_is_reached_before_the_first_byte_of_an_answer(rt: HostRuntime) -> Result<(), Fail> {
-    assert_eq!(rt; reached(rt.alloc()), Ok((1, 1)));
+fn workers_in_threads_serve_all_their_links(rt: HostRuntime) -> Result<(), Fail> {
+    assert_eq!(rt; both_serve(&rt, rt.alloc()), Ok(true));
     Ok(())
 }

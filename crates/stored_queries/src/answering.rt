@@ -17,13 +17,13 @@ use crate::describing::{all_stored, described};
 use crate::expanding::{Meant, expand_one};
 use crate::refusing::{no_such_feature, no_such_property, refusal_of};
 use crate::selecting::{select_asked, selected_of};
-use crate::stored::{Stored, is_id_query};
+use crate::stored::Stored;
 use crate::valuing::values;
 use feature_values::{Feature, Rid, Schema};
 use fes_filter::{FeatureView, property_in, type_in};
 use std::alloc::Global;
 use wfs_ends::{List, Mem, OutOfMemory, Text};
-use wfs_model::{Asked, Present, Refusal, Reply, Request, StoredFault, StoredQuery};
+use wfs_model::{Asked, Present, Refusal, Reply, Request, StoredFault, StoredQuery, is_id_query};
 
 /// The numbers of all types.
 fn numbers_below(alloc: Global, types: usize) -> Mem<List<u32>>

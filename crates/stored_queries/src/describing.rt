@@ -10,10 +10,10 @@ ghost use Rattle.wfs_model.specs.Read.{is_listed, described, reply_of};
 
 use crate::finding::{has, in_order, ordered};
 use crate::refusing::no_such_query;
-use crate::stored::{ID_QUERY_URN, built_in, is_id_query};
+use crate::stored::built_in;
 use std::alloc::Global;
 use wfs_ends::{List, Mem, Text};
-use wfs_model::{Reply, StoredQuery};
+use wfs_model::{ID_QUERY_URN, Reply, StoredQuery, is_id_query};
 
 /// Copies of all stored queries, the built-in one first.
 pub(crate) fn all_stored(alloc: Global, stored: &[StoredQuery]) -> Mem<List<StoredQuery>>

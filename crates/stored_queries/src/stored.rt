@@ -12,20 +12,7 @@ ghost use Rattle.stored_queries.specs.Listed.{left, IsFirstKnown};
 use std::alloc::Global;
 use std::marker::Model;
 use wfs_ends::{List, Mem, Text};
-use wfs_model::{StoredFault, StoredQuery};
-
-/// The name of the built-in query that stands in replies.
-pub(crate) const ID_QUERY_URN: &str = "urn:ogc:def:query:OGC-WFS::GetFeatureById";
-
-const ID_QUERY_ADDRESS: &str = "http://www.opengis.net/def/query/OGC-WFS/0/GetFeatureById";
-
-/// Whether an identifier is one of the two names of the built-in query (OGC 09-025r2, section 7.9.3.6).
-#[tactic(auto, unfolding(wfs_model::specs::Stored::is_id_query))]
-pub(crate) fn is_id_query(id: &str) -> bool
-    ensures { result ≡ is_id_query id.now }
-{
-    id == ID_QUERY_URN || id == ID_QUERY_ADDRESS
-}
+use wfs_model::{ID_QUERY_URN, StoredFault, StoredQuery, is_id_query};
 
 /// The built-in query as it stands in replies.
 pub(crate) fn built_in(alloc: Global) -> Mem<StoredQuery>

@@ -10,12 +10,12 @@ ghost use Rattle.wfs_model.specs.Expand.{query_by_id, id_query_used, stored_used
 
 use crate::filling::filled;
 use crate::given::texts_for;
-use crate::stored::{built_in, is_id_query, stored_at};
+use crate::stored::{built_in, stored_at};
 use feature_values::{Rid, Schema, read_rid};
 use fes_filter::{Filter, IdRef, Query};
 use std::alloc::Global;
 use wfs_ends::{List, Mem, Text};
-use wfs_model::{StoredFault, StoredQuery};
+use wfs_model::{StoredFault, StoredQuery, is_id_query};
 
 fn reference_by(id: Option<Rid>) -> IdRef
     ensures { result ≡ known_or_nobody id }

@@ -16,10 +16,7 @@ use std::alloc::Global;
 use std::marker::Model;
 use stored_queries::{Stored, answer};
 use wfs_ends::{List, Mem};
-use wfs_model::{Entry, Reply, Request};
-
-// A moment that is handed in counts as this one at the most.
-const LAST_MOMENT: u64 = 200_000_000_000;
+use wfs_model::{Entry, LAST_MOMENT, Reply, Request};
 
 /// The plain machine: it takes the steps of the service one by one. Contracts see it as the schema that it serves and the
 /// service's state.

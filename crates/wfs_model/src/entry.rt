@@ -2,6 +2,9 @@
 
 use crate::request::Request;
 
+/// The latest moment, in whole seconds since 1970. A later one that is handed in counts as this.
+pub const LAST_MOMENT: u64 = 200_000_000_000;
+
 /// An entry of the history: a changing request, with the seat and the moment at which it was taken up and the length of
 /// the message's body, or of its query where it has none.
 #[derive(Debug, PartialEq, Eq, Drop)]

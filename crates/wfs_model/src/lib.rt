@@ -18,7 +18,7 @@ mod terms;
 pub use action::Action;
 pub use asked::{Asked, Present};
 pub use change::{Change, Part};
-pub use entry::Entry;
+pub use entry::{Entry, LAST_MOMENT};
 pub use fault::{AskFault, StoredFault};
 pub use laws::{
     changes_of_steps_may_be_played, changes_tell_what_is_kept, each_step_sets_the_moment,
@@ -29,5 +29,5 @@ pub use link::page_link;
 pub use lock_table::{LockId, Release};
 pub use reply::{Made, Refusal, Reply};
 pub use request::{Request, Take};
-pub use stored::StoredQuery;
+pub use stored::{ID_QUERY_URN, StoredQuery, is_id_query};
 pub use terms::{is_format, is_listed, is_version, read_count, refused};

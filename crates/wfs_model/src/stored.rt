@@ -1,10 +1,25 @@
 //! Stored queries.
 
 ghost use Rattle.std.specs.Prelude.{◌≡◌, IfOk};
+ghost use Rattle.wfs_model.specs.Stored.{is_id_query};
 
 use fes_filter::Query;
 use std::alloc::Global;
 use wfs_ends::{List, Mem, Text};
+
+/// The name of the built-in query GetFeatureById that stands in replies (OGC 09-025r2, section 7.9.3.6).
+pub const ID_QUERY_URN: &str = "urn:ogc:def:query:OGC-WFS::GetFeatureById";
+
+/// Its other name.
+const ID_QUERY_ADDRESS: &str = "http://www.opengis.net/def/query/OGC-WFS/0/GetFeatureById";
+
+/// Whether an identifier is one of the two names of the built-in query (OGC 09-025r2, section 7.9.3.6).
+#[tactic(auto, unfolding(crate::specs::Stored::is_id_query))]
+pub fn is_id_query(id: &str) -> bool
+    ensures { result ≡ is_id_query id.now }
+{
+    id == ID_QUERY_URN || id == ID_QUERY_ADDRESS
+}
 
 /// A stored query (OGC 09-025r2, 14.2).
 #[derive(Debug, PartialEq, Eq, Drop)]

@@ -24,14 +24,14 @@ use Rattle.wfs_model.specs.declared.stored.StoredQuery.{StoredQuery}
 use Rattle.wfs_model.specs.Stored.{is_id_query}
 use Rattle.wfs_model.specs.Terms.{count_of}
 use Rattle.wfs_model.specs.OfSchema.{IsType, IsQueryOf, IsStoredOf, IsActionOf, property_at, query_in, names_given, IsOfSchema}
-use Rattle.request_terms.specs.Said.{Said, or_fault, read_if, required_of, kind_of}
-use Rattle.request_terms.specs.Base.{format_of, negotiated}
-use Rattle.request_terms.specs.Paging.{page_of, locked_page_of, presented}
-use Rattle.request_terms.specs.Locking.{take_of, lock_of, from_1_on, seconds_in, expiry_of, period_of}
-use Rattle.request_terms.specs.Stored.{dropped_of}
-use Rattle.request_terms.specs.Elements.{said_at, is_wfs, no_others, misplaced, no_children, text_in}
-use Rattle.request_terms.specs.declared.operation.Operation.{Operation}
-use Rattle.request_terms.specs.declared.operation.Operation.TheVariants.{GetCapabilities, DescribeFeatureType, GetPropertyValue, GetFeature, GetFeatureWithLock, LockFeature, Transaction, ListStoredQueries, DescribeStoredQueries, CreateStoredQuery, DropStoredQuery}
+use Rattle.request_parameters.specs.Said.{Said, or_fault, read_if, required_of, kind_of}
+use Rattle.request_parameters.specs.Base.{format_of, negotiated}
+use Rattle.request_parameters.specs.Paging.{page_of, locked_page_of, presented}
+use Rattle.request_parameters.specs.Locking.{take_of, lock_of, from_1_on, seconds_in, expiry_of, period_of}
+use Rattle.request_parameters.specs.Stored.{dropped_of}
+use Rattle.request_parameters.specs.Elements.{said_at, is_wfs, no_others, misplaced, no_children, text_in}
+use Rattle.request_parameters.specs.declared.operation.Operation.{Operation}
+use Rattle.request_parameters.specs.declared.operation.Operation.TheVariants.{GetCapabilities, DescribeFeatureType, GetPropertyValue, GetFeature, GetFeatureWithLock, LockFeature, Transaction, ListStoredQueries, DescribeStoredQueries, CreateStoredQuery, DropStoredQuery}
 use Rattle.query_docs.specs.Asked.{asked_of, IsAskedOf}
 use Rattle.query_docs.specs.Definitions.{definition_of}
 use Rattle.query_docs.proofs.Sound.{asked_is, definition_is}

@@ -28,11 +28,11 @@ use Rattle.wfs_model.specs.declared.request.Request.{Request}
 use Rattle.wfs_model.specs.declared.request.Request.TheVariants.{Transact}
 use Rattle.wfs_model.specs.Stored.{is_id_query}
 use Rattle.wfs_model.specs.OfSchema.{IsType, property_at, IsFilterOf, IsQueryOf, IsStoredOf, IsNewOf, set_fits, IsSetOf, IsActionOf, IsOfSchema}
-use Rattle.request_terms.specs.Said.{required_of, kind_of}
-use Rattle.request_terms.specs.Base.{srs_of}
-use Rattle.request_terms.specs.Locking.{lock_of, release_of}
-use Rattle.request_terms.specs.Elements.{said_at, is_wfs, no_others, misplaced, no_children}
-use Rattle.request_terms.proofs.Named.{is_type}
+use Rattle.request_parameters.specs.Said.{required_of, kind_of}
+use Rattle.request_parameters.specs.Base.{srs_of}
+use Rattle.request_parameters.specs.Locking.{lock_of, release_of}
+use Rattle.request_parameters.specs.Elements.{said_at, is_wfs, no_others, misplaced, no_children}
+use Rattle.request_parameters.proofs.Named.{is_type}
 use Rattle.wfs_requests.specs.Base.{children_of, base_of}
 use Rattle.wfs_requests.specs.Changes.{type_of, sought, property_of, or_refusal, selected, only_filter}
 use Rattle.wfs_requests.specs.Features.{feature_of}

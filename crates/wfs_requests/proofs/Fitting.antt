@@ -21,7 +21,7 @@ use Rattle.feature_values.specs.Reads.{trimmed, whole_of, truth_of, a_whole, a_t
 use Rattle.fes_filter.specs.Check.{is_shape}
 use Rattle.wfs_model.specs.declared.fault.AskFault.{AskFault}
 use Rattle.wfs_model.specs.OfSchema.{IsNewOf}
-use Rattle.request_terms.specs.Elements.{no_others}
+use Rattle.request_parameters.specs.Elements.{no_others}
 use Rattle.wfs_requests.specs.Values.{unfit, or_unfit, shape_of, only_shape, word_of, content_of, null_of}
 use Rattle.wfs_requests.specs.Features.{Given, so_far, nothing, is_nil, value_of, place_of, stray, with_value, with_element, next_value, one_met, all_met, values_of, kind_of, numberless, feature_of_type, feature_of_kind, feature_of}
 use Rattle.wfs_requests.proofs.Readings.{kept, not_both}

@@ -17,14 +17,14 @@ use Rattle.wfs_model.specs.declared.request.Request.TheVariants.{CreateStored}
 use Rattle.wfs_model.specs.declared.request.Take.{Take}
 use Rattle.wfs_model.specs.declared.stored.StoredQuery.{StoredQuery}
 use Rattle.wfs_model.specs.OfSchema.{stored_in}
-use Rattle.request_terms.specs.Said.{Ask, required_of}
-use Rattle.request_terms.specs.Base.{srs_of, format_of, negotiated}
-use Rattle.request_terms.specs.Paging.{page_of, locked_page_of}
-use Rattle.request_terms.specs.Locking.{take_of, lock_of, release_of, expiry_of, period_of}
-use Rattle.request_terms.specs.Stored.{dropped_of}
-use Rattle.request_terms.specs.Elements.{said_at, misplaced, no_children}
-use Rattle.request_terms.specs.declared.operation.Operation.{Operation}
-use Rattle.request_terms.specs.declared.operation.Operation.TheVariants.{GetCapabilities, DescribeFeatureType, GetPropertyValue, GetFeature, GetFeatureWithLock, LockFeature, Transaction, ListStoredQueries, DescribeStoredQueries, CreateStoredQuery, DropStoredQuery}
+use Rattle.request_parameters.specs.Said.{Ask, required_of}
+use Rattle.request_parameters.specs.Base.{srs_of, format_of, negotiated}
+use Rattle.request_parameters.specs.Paging.{page_of, locked_page_of}
+use Rattle.request_parameters.specs.Locking.{take_of, lock_of, release_of, expiry_of, period_of}
+use Rattle.request_parameters.specs.Stored.{dropped_of}
+use Rattle.request_parameters.specs.Elements.{said_at, misplaced, no_children}
+use Rattle.request_parameters.specs.declared.operation.Operation.{Operation}
+use Rattle.request_parameters.specs.declared.operation.Operation.TheVariants.{GetCapabilities, DescribeFeatureType, GetPropertyValue, GetFeature, GetFeatureWithLock, LockFeature, Transaction, ListStoredQueries, DescribeStoredQueries, CreateStoredQuery, DropStoredQuery}
 use Rattle.query_docs.specs.Definitions.{definition_of}
 use Rattle.query_docs.specs.Reading.{IsKeptText}
 use Rattle.query_docs.proofs.Kept.{definition_kept}

@@ -7,7 +7,7 @@ use Rattle.std.proofs.lemmas.List.Elements.{All-nil, All-append, All-head, All-t
 use Rattle.wfs_ends.specs.Read.{◌>>=◌, each, unless}
 use Rattle.wfs_ends.proofs.Turns.{bind_ok, ok_is}
 use Rattle.wfs_model.specs.declared.fault.AskFault.{AskFault}
-use Rattle.request_terms.specs.Said.{Ask, or_fault}
+use Rattle.request_parameters.specs.Said.{Ask, or_fault}
 
 pub or_fault_ok : {A : Type 0} (r : Option A) (fault : AskFault) (x : A) → or_fault r fault ≡ Ok x → r ≡ Some x
 or_fault_ok None fault x h = absurd cc

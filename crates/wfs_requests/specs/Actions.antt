@@ -6,8 +6,8 @@ use Rattle.feature_values.specs.declared.schema.Schema.{Schema}
 use Rattle.wfs_model.specs.declared.action.Action.{Action}
 use Rattle.wfs_model.specs.declared.action.Action.TheVariants.{Replace, Delete}
 use Rattle.wfs_model.specs.Terms.{refused}
-use Rattle.request_terms.specs.Said.{Ask}
-use Rattle.request_terms.specs.Elements.{said_at, is_wfs, no_others, misplaced}
+use Rattle.request_parameters.specs.Said.{Ask}
+use Rattle.request_parameters.specs.Elements.{said_at, is_wfs, no_others, misplaced}
 use Rattle.wfs_requests.specs.Base.{children_of}
 use Rattle.wfs_requests.specs.Changes.{type_of, only_filter}
 use Rattle.wfs_requests.specs.Features.{feature_of}

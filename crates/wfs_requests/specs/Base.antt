@@ -2,9 +2,9 @@
 use Rattle.std.specs.Prelude.{ℕ, List, ◌∷◌, codes}
 use Rattle.wfs_ends.specs.Read.{◌>>=◌}
 use Rattle.doc_tree.specs.declared.tree.Element.{Element, out-Element}
-use Rattle.request_terms.specs.Said.{Ask}
-use Rattle.request_terms.specs.Base.{service_of, version_of}
-use Rattle.request_terms.specs.Elements.{said_at}
+use Rattle.request_parameters.specs.Said.{Ask}
+use Rattle.request_parameters.specs.Base.{service_of, version_of}
+use Rattle.request_parameters.specs.Elements.{said_at}
 
 abbrev pub children_of : Element → List Element
 children_of e = (out-Element e).children

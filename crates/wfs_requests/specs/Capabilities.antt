@@ -3,12 +3,12 @@ use Rattle.std.specs.Prelude.{ℕ, Bool, ◌||◌, not, if◌then◌else◌, Lis
 use Rattle.std.specs.Option.{is_some}
 use Rattle.wfs_ends.specs.Read.{◌>>=◌, each, unless}
 use Rattle.doc_tree.specs.declared.tree.Element.{Element, out-Element}
-use Rattle.doc_attributes.specs.Names.{is_name}
+use Rattle.doc_tree.specs.Attributes.{is_name}
 use Rattle.wfs_model.specs.declared.request.Request.{Request}
 use Rattle.wfs_model.specs.declared.request.Request.TheVariants.{Capabilities}
-use Rattle.request_terms.specs.Said.{Ask}
-use Rattle.request_terms.specs.Base.{negotiated}
-use Rattle.request_terms.specs.Elements.{no_others, misplaced, text_in}
+use Rattle.request_parameters.specs.Said.{Ask}
+use Rattle.request_parameters.specs.Base.{negotiated}
+use Rattle.request_parameters.specs.Elements.{no_others, misplaced, text_in}
 use Rattle.wfs_requests.specs.Base.{children_of, base_of, with_base}
 
 -- the namespace of OWS Common 1.1

@@ -10,8 +10,8 @@ use Rattle.fes_docs.specs.Filters.{filter_of}
 use Rattle.fes_docs.specs.Names.{refusal_of}
 use Rattle.fes_docs.specs.declared.fault.FilterDocFault.{FilterDocFault}
 use Rattle.wfs_model.specs.Terms.{refused}
-use Rattle.request_terms.specs.Said.{Ask, required_of, kind_of}
-use Rattle.request_terms.specs.Elements.{said_at, misplaced, no_children}
+use Rattle.request_parameters.specs.Said.{Ask, required_of, kind_of}
+use Rattle.request_parameters.specs.Elements.{said_at, misplaced, no_children}
 
 -- ---- types and properties
 

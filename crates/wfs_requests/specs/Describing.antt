@@ -5,9 +5,9 @@ use Rattle.doc_tree.specs.declared.tree.Element.{Element}
 use Rattle.feature_values.specs.declared.schema.Schema.{Schema}
 use Rattle.wfs_model.specs.declared.request.Request.{Request}
 use Rattle.wfs_model.specs.declared.request.Request.TheVariants.{DescribeTypes}
-use Rattle.request_terms.specs.Said.{Ask, kind_of}
-use Rattle.request_terms.specs.Base.{format_of}
-use Rattle.request_terms.specs.Elements.{said_at, is_wfs, no_others, misplaced, text_in}
+use Rattle.request_parameters.specs.Said.{Ask, kind_of}
+use Rattle.request_parameters.specs.Base.{format_of}
+use Rattle.request_parameters.specs.Elements.{said_at, is_wfs, no_others, misplaced, text_in}
 use Rattle.wfs_requests.specs.Base.{children_of, base_of, with_base}
 
 -- a TypeName

@@ -4,7 +4,7 @@ use Rattle.std.specs.Prelude.{ℕ, Bool, true, false, ◌&&◌, ◌||◌, not, i
 use Rattle.std.specs.Str.{bytes_eq}
 use Rattle.wfs_ends.specs.Read.{◌>>=◌, each}
 use Rattle.doc_tree.specs.declared.tree.Element.{Element, out-Element}
-use Rattle.doc_attributes.specs.Names.{value_at}
+use Rattle.doc_tree.specs.Attributes.{value_at}
 use Rattle.gml_docs.specs.Elements.{is_gml}
 use Rattle.feature_values.specs.declared.schema.Schema.{Schema}
 use Rattle.feature_values.specs.declared.schema.FeatureType.{FeatureType}
@@ -16,8 +16,8 @@ use Rattle.feature_values.specs.declared.feature.Feature.{Feature}
 use Rattle.feature_values.specs.Ids.{type_named, property_named}
 use Rattle.wfs_model.specs.declared.fault.AskFault.{AskFault}
 use Rattle.wfs_model.specs.Terms.{refused}
-use Rattle.request_terms.specs.Said.{Ask}
-use Rattle.request_terms.specs.Elements.{local_of, no_others}
+use Rattle.request_parameters.specs.Said.{Ask}
+use Rattle.request_parameters.specs.Elements.{local_of, no_others}
 use Rattle.wfs_requests.specs.Values.{unfit, content_of, null_of, is_empty}
 
 -- ---- one property

@@ -13,10 +13,10 @@ use Rattle.wfs_model.specs.declared.request.Request.TheVariants.{GetFeatures, Ge
 use Rattle.wfs_model.specs.declared.request.Take.{Take}
 use Rattle.wfs_model.specs.Terms.{refused}
 use Rattle.query_docs.specs.Asked.{asked_of}
-use Rattle.request_terms.specs.Said.{Ask, required_of}
-use Rattle.request_terms.specs.Paging.{page_of, locked_page_of, presented}
-use Rattle.request_terms.specs.Locking.{take_of, lock_of, expiry_of, period_of}
-use Rattle.request_terms.specs.Elements.{said_at, no_others, misplaced, no_children}
+use Rattle.request_parameters.specs.Said.{Ask, required_of}
+use Rattle.request_parameters.specs.Paging.{page_of, locked_page_of, presented}
+use Rattle.request_parameters.specs.Locking.{take_of, lock_of, expiry_of, period_of}
+use Rattle.request_parameters.specs.Elements.{said_at, no_others, misplaced, no_children}
 use Rattle.wfs_requests.specs.Base.{children_of, base_of, with_base}
 use Rattle.wfs_requests.specs.Changes.{property_of}
 

@@ -6,9 +6,9 @@ use Rattle.feature_values.specs.declared.schema.Schema.{Schema}
 use Rattle.feature_values.specs.declared.feature.Feature.{Feature}
 use Rattle.wfs_model.specs.declared.action.Action.{Action}
 use Rattle.wfs_model.specs.declared.action.Action.TheVariants.{Insert}
-use Rattle.request_terms.specs.Said.{Ask}
-use Rattle.request_terms.specs.Base.{format_of, srs_of}
-use Rattle.request_terms.specs.Elements.{said_at, no_others, misplaced}
+use Rattle.request_parameters.specs.Said.{Ask}
+use Rattle.request_parameters.specs.Base.{format_of, srs_of}
+use Rattle.request_parameters.specs.Elements.{said_at, no_others, misplaced}
 use Rattle.wfs_requests.specs.Base.{children_of}
 use Rattle.wfs_requests.specs.Features.{feature_of}
 

@@ -6,11 +6,11 @@ use Rattle.doc_tree.specs.declared.tree.Element.{Element, out-Element}
 use Rattle.feature_values.specs.declared.schema.Schema.{Schema}
 use Rattle.wfs_model.specs.declared.request.Request.{Request}
 use Rattle.wfs_model.specs.Terms.{refused}
-use Rattle.request_terms.specs.Said.{Ask}
-use Rattle.request_terms.specs.Operations.{operation_of}
-use Rattle.request_terms.specs.Elements.{local_of, wfs_space}
-use Rattle.request_terms.specs.declared.operation.Operation.{Operation}
-use Rattle.request_terms.specs.declared.operation.Operation.TheVariants.{GetCapabilities, DescribeFeatureType, GetPropertyValue, GetFeature, GetFeatureWithLock, LockFeature, Transaction, ListStoredQueries, DescribeStoredQueries, CreateStoredQuery, DropStoredQuery}
+use Rattle.request_parameters.specs.Said.{Ask}
+use Rattle.request_parameters.specs.Operations.{operation_of}
+use Rattle.request_parameters.specs.Elements.{local_of, wfs_space}
+use Rattle.request_parameters.specs.declared.operation.Operation.{Operation}
+use Rattle.request_parameters.specs.declared.operation.Operation.TheVariants.{GetCapabilities, DescribeFeatureType, GetPropertyValue, GetFeature, GetFeatureWithLock, LockFeature, Transaction, ListStoredQueries, DescribeStoredQueries, CreateStoredQuery, DropStoredQuery}
 use Rattle.wfs_requests.specs.Capabilities.{capabilities_of}
 use Rattle.wfs_requests.specs.Describing.{types_of}
 use Rattle.wfs_requests.specs.Fetching.{features_of, locked_of, lock_request, values_request}

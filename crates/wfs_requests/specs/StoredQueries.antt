@@ -7,9 +7,9 @@ use Rattle.wfs_model.specs.declared.stored.StoredQuery.{StoredQuery}
 use Rattle.wfs_model.specs.declared.request.Request.{Request}
 use Rattle.wfs_model.specs.declared.request.Request.TheVariants.{ListStored, DescribeStored, CreateStored, DropStored}
 use Rattle.query_docs.specs.Definitions.{definition_of}
-use Rattle.request_terms.specs.Said.{Ask}
-use Rattle.request_terms.specs.Stored.{dropped_of}
-use Rattle.request_terms.specs.Elements.{said_at, is_wfs, no_others, misplaced, no_children, text_in}
+use Rattle.request_parameters.specs.Said.{Ask}
+use Rattle.request_parameters.specs.Stored.{dropped_of}
+use Rattle.request_parameters.specs.Elements.{said_at, is_wfs, no_others, misplaced, no_children, text_in}
 use Rattle.wfs_requests.specs.Base.{children_of, base_of, with_base}
 
 -- a request without attributes of its own

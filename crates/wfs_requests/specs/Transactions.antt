@@ -6,10 +6,10 @@ use Rattle.feature_values.specs.declared.schema.Schema.{Schema}
 use Rattle.wfs_model.specs.declared.action.Action.{Action}
 use Rattle.wfs_model.specs.declared.request.Request.{Request}
 use Rattle.wfs_model.specs.declared.request.Request.TheVariants.{Transact}
-use Rattle.request_terms.specs.Said.{Ask}
-use Rattle.request_terms.specs.Base.{srs_of}
-use Rattle.request_terms.specs.Locking.{lock_of, release_of}
-use Rattle.request_terms.specs.Elements.{said_at, no_others}
+use Rattle.request_parameters.specs.Said.{Ask}
+use Rattle.request_parameters.specs.Base.{srs_of}
+use Rattle.request_parameters.specs.Locking.{lock_of, release_of}
+use Rattle.request_parameters.specs.Elements.{said_at, no_others}
 use Rattle.wfs_requests.specs.Base.{children_of, base_of, with_base}
 use Rattle.wfs_requests.specs.Actions.{action_of}
 

@@ -13,8 +13,8 @@ use Rattle.wfs_model.specs.OfSchema.{property_at}
 use Rattle.wfs_model.specs.declared.action.Action.{Action}
 use Rattle.wfs_model.specs.declared.action.Action.TheVariants.{Update}
 use Rattle.wfs_model.specs.Terms.{refused}
-use Rattle.request_terms.specs.Said.{Ask, passing}
-use Rattle.request_terms.specs.Elements.{said_at, is_wfs, no_others, misplaced, no_children, text_in}
+use Rattle.request_parameters.specs.Said.{Ask, passing}
+use Rattle.request_parameters.specs.Elements.{said_at, is_wfs, no_others, misplaced, no_children, text_in}
 use Rattle.wfs_requests.specs.Base.{children_of}
 use Rattle.wfs_requests.specs.Changes.{type_of, property_of, selected}
 use Rattle.wfs_requests.specs.Inserts.{income_of}

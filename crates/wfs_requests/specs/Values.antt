@@ -12,7 +12,7 @@ use Rattle.feature_values.specs.Reads.{reads}
 use Rattle.fes_filter.specs.Check.{is_shape}
 use Rattle.wfs_model.specs.declared.fault.AskFault.{AskFault}
 use Rattle.wfs_model.specs.Terms.{refused}
-use Rattle.request_terms.specs.Said.{Ask}
+use Rattle.request_parameters.specs.Said.{Ask}
 
 -- a value does not fit a property
 abbrev pub unfit : Property → AskFault

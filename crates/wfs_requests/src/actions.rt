@@ -9,7 +9,7 @@ use crate::inserts::{income_of, income_others, insert_of};
 use crate::updates::update_of;
 use doc_tree::Element;
 use feature_values::Schema;
-use request_terms::{Attributes, is_wfs, misplaced, no_others, value_of};
+use request_parameters::{Attributes, is_wfs, misplaced, no_others, value_of};
 use std::alloc::Global;
 use wfs_model::{Action, AskFault, refused};
 

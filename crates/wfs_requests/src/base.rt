@@ -4,7 +4,7 @@ ghost use Rattle.wfs_ends.specs.Read.{GivesBut};
 ghost use Rattle.wfs_requests.specs.Base.{base_of};
 
 use doc_tree::Element;
-use request_terms::{Attributes, service_of, version_of};
+use request_parameters::{Attributes, service_of, version_of};
 use std::alloc::Global;
 use wfs_model::AskFault;
 

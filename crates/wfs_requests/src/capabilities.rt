@@ -2,13 +2,12 @@
 
 ghost use Rattle.std.specs.Prelude.{◌≡◌, [], ◌∷◌, ◌++◌, None, OnOk, IfOk, unwrap_or};
 ghost use Rattle.wfs_ends.specs.Read.{GivesBut, each};
-ghost use Rattle.request_terms.specs.Base.{negotiated};
+ghost use Rattle.request_parameters.specs.Base.{negotiated};
 ghost use Rattle.wfs_requests.specs.Capabilities.{is_ows, next_version, versions_in, with_versions, is_passed_over, next_accepted, capabilities_others, capabilities_of};
 
 use crate::base::base_of;
-use doc_attributes::is_name;
-use doc_tree::Element;
-use request_terms::{misplaced, negotiated, no_others, text_in};
+use doc_tree::{Element, is_name};
+use request_parameters::{misplaced, negotiated, no_others, text_in};
 use std::alloc::Global;
 use wfs_ends::{List, Mem, Text};
 use wfs_model::{AskFault, Request};

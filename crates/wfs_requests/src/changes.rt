@@ -9,14 +9,14 @@ use doc_tree::Element;
 use feature_values::{Schema, ValueKind};
 use fes_docs::{FilterDocFault, read_filter};
 use fes_filter::{Filter, property_in, type_in};
-use request_terms::{Attributes, Given, kind_of, misplaced, no_children};
+use request_parameters::{Attributes, Given, kind_of, misplaced, no_children};
 use std::alloc::Global;
 use wfs_model::{AskFault, refused};
 
 // ---- types and properties
 
 // The type whose features an action changes.
-#[tactic(auto, unfolding(crate::specs::Changes::type_of, request_terms::specs::Said::required_of))]
+#[tactic(auto, unfolding(crate::specs::Changes::type_of, request_parameters::specs::Said::required_of))]
 pub(crate) fn type_of(alloc: Global, schema: &Schema, element: &Element) -> Result<u32, AskFault>
     ensures { GivesBut AskFault.OutOfMemory (λ kind. kind) result (type_of schema.now element.now) }
 {

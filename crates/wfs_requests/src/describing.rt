@@ -7,7 +7,7 @@ ghost use Rattle.wfs_requests.specs.Describing.{next_type, types_others, types_o
 use crate::base::base_of;
 use doc_tree::Element;
 use feature_values::Schema;
-use request_terms::{Attributes, format_of, is_wfs, kind_of, misplaced, no_others, text_in};
+use request_parameters::{Attributes, format_of, is_wfs, kind_of, misplaced, no_others, text_in};
 use std::alloc::Global;
 use wfs_ends::{List, Mem};
 use wfs_model::{AskFault, Request};

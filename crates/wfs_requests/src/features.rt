@@ -8,16 +8,13 @@ ghost use Rattle.feature_values.specs.declared.value.Value.TheVariants.{Null as 
 ghost use Rattle.wfs_requests.specs.Features.{is_true, is_nil, value_of, so_far, place_of, stray, with_value, next_value, one_met, all_met, values_of, kind_of, feature_of};
 
 use crate::values::{content_of, is_empty, null_of, unfit};
-use doc_attributes::{is_name, value_at};
-use doc_tree::Element;
+use doc_tree::{Element, is_name, value_at};
 use feature_values::{Feature, FeatureType, Property, Rid, Schema, Value};
-use request_terms::no_others;
+use gml_docs::GML;
+use request_parameters::no_others;
 use std::alloc::Global;
 use wfs_ends::{List, Mem, Text};
 use wfs_model::{AskFault, refused};
-
-// The namespace of GML 3.2.
-const GML: &str = "http://www.opengis.net/gml/3.2";
 
 // The namespace of attributes for instances of XML Schema.
 const INSTANCE: &str = "http://www.w3.org/2001/XMLSchema-instance";

@@ -10,7 +10,7 @@ use doc_tree::Element;
 use feature_values::Schema;
 use lock_table::LockId;
 use query_docs::read_asked;
-use request_terms::{
+use request_parameters::{
     Attributes, expiry_of, lock_of, locked_page_of, misplaced, no_children, no_others, page_of,
     period_of, required_of, take_of,
 };

@@ -7,7 +7,7 @@ ghost use Rattle.wfs_requests.specs.Inserts.{income_of, income_others, next_feat
 use crate::features::feature_of;
 use doc_tree::Element;
 use feature_values::{Feature, Schema};
-use request_terms::{Attributes, format_of, misplaced, no_others, srs_of, value_of};
+use request_parameters::{Attributes, format_of, misplaced, no_others, srs_of, value_of};
 use std::alloc::Global;
 use wfs_ends::{List, Mem};
 use wfs_model::{Action, AskFault};

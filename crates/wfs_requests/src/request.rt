@@ -15,12 +15,9 @@ use crate::stored_queries::{created_of, described_of, drop_of, list_of};
 use crate::transactions::transaction_of;
 use doc_tree::Element;
 use feature_values::Schema;
-use request_terms::{Operation, operation_of};
+use request_parameters::{Operation, WFS, operation_of};
 use std::alloc::Global;
 use wfs_model::{AskFault, Request, refused};
-
-// The namespace of the Web Feature Service 2.0.
-const WFS: &str = "http://www.opengis.net/wfs/2.0";
 
 // The operation that a root names.
 #[tactic(auto, unfolding(crate::specs::Requests::root_of))]

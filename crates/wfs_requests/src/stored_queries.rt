@@ -8,7 +8,9 @@ use crate::base::base_of;
 use doc_tree::Element;
 use feature_values::Schema;
 use query_docs::read_definition;
-use request_terms::{Attributes, dropped_of, is_wfs, misplaced, no_children, no_others, text_in};
+use request_parameters::{
+    Attributes, dropped_of, is_wfs, misplaced, no_children, no_others, text_in,
+};
 use std::alloc::Global;
 use wfs_ends::{List, Mem, Text};
 use wfs_model::{AskFault, Request, StoredQuery};

@@ -8,7 +8,7 @@ use crate::actions::action_of;
 use crate::base::base_of;
 use doc_tree::Element;
 use feature_values::Schema;
-use request_terms::{Attributes, lock_of, no_others, release_of, srs_of};
+use request_parameters::{Attributes, lock_of, no_others, release_of, srs_of};
 use std::alloc::Global;
 use wfs_ends::{List, Mem};
 use wfs_model::{Action, AskFault, Request};

@@ -4,7 +4,7 @@ ghost use Rattle.std.specs.Prelude.{◌≡◌, ◌==◌, ℕ, [], ◌∷◌, ◌
 ghost use Rattle.std.specs.Option.{option_copied};
 ghost use Rattle.wfs_ends.specs.Read.{GivesBut, each, unless};
 ghost use Rattle.wfs_model.specs.OfSchema.{property_at};
-ghost use Rattle.request_terms.specs.Elements.{misplaced};
+ghost use Rattle.request_parameters.specs.Elements.{misplaced};
 ghost use Rattle.wfs_requests.specs.Base.{children_of};
 ghost use Rattle.wfs_requests.specs.Updates.{is_replace, way_of, reference_of, set_content, set_value, new_value, value_at, set_by, set_in, set_of, so_far, with_set, with_filter, next_change, update_others, update_of};
 
@@ -14,7 +14,7 @@ use crate::values::{content_of, is_empty, null_of};
 use doc_tree::Element;
 use feature_values::{Property, Schema, Value};
 use fes_filter::{Filter, is_shape, type_in};
-use request_terms::{
+use request_parameters::{
     Attributes, Given, is_wfs, misplaced, no_children, no_others, text_in, value_of,
 };
 use std::alloc::Global;

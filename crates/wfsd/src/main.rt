@@ -5,10 +5,10 @@
 #![tactic(auto)]
 
 ghost use Rattle.std.specs.Prelude.{◌≡◌};
-ghost use Rattle.program_lines.specs.Lines.{GivesOr, no_memory};
+ghost use Rattle.program_output.specs.Lines.{GivesOr, no_memory};
 
 use disk_core::{Disk, FileDisk, Pair};
-use program_lines::say;
+use program_output::say;
 use service_doors::{Acceptor, Doors, TcpDoors};
 use std::alloc::Global;
 use std::env;

@@ -4,10 +4,10 @@ use Rattle.std.specs.Prelude.{IfSome}
 use Rattle.disk_core.specs.declared.disk.Disk.{Ghosts as DiskMeaning}
 use Rattle.disk_core.specs.declared.pair.Pair.{Pair}
 use Rattle.feature_journal.specs.Faults.{NoneFell, OneRose}
-use Rattle.message_asks.specs.Verdicts.{Served, Grows, IsEntryOf, with_entry}
-use Rattle.message_asks.proofs.Growing.{grows_none, grows_both, legal_still, own_still}
+use Rattle.http_requests.specs.Verdicts.{Served, Grows, IsEntryOf, with_entry}
+use Rattle.http_requests.proofs.Growing.{grows_none, grows_both, legal_still, own_still}
 use Rattle.std.proofs.lemmas.List.Elements.{All-nil, All-cons}
-use Rattle.session_workers.specs.Solo.{own_seat, served_of}
+use Rattle.service_session.specs.Solo.{own_seat, served_of}
 use Rattle.wfs_model.specs.declared.change.Change.{Change}
 use Rattle.wfs_model.specs.declared.entry.Entry.{Entry}
 use Rattle.wfs_model.specs.declared.reply.Reply.{Reply}

@@ -10,7 +10,7 @@ use Rattle.drill_requests.specs.Requests.{drill_of, requests_before, requests_of
 use Rattle.drill_requests.specs.Drawn.{Drawn}
 use Rattle.drill_requests.specs.Rounds.{moved, drawn, seed_after, round_of}
 use Rattle.feature_values.specs.declared.schema.Schema.{Schema}
-use Rattle.program_lines.specs.Lines.{GivesOr}
+use Rattle.program_output.specs.Lines.{GivesOr}
 use Rattle.wfs_ends.specs.Ends.{Shown}
 use Rattle.wfs_model.specs.declared.entry.Entry.{Entry}
 use Rattle.wfs_model.specs.declared.reply.Reply.{Reply}

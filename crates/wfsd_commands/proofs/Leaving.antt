@@ -6,9 +6,9 @@ use Rattle.disk_core.specs.declared.pair.Pair.{Pair}
 use Rattle.durable_journal.specs.declared.fault.OpenFault.{OpenFault}
 use Rattle.durable_journal.specs.declared.looking.Counts.{Counts}
 use Rattle.feature_values.specs.declared.schema.Schema.{Schema}
-use Rattle.message_asks.specs.Verdicts.{IsEntryOf}
-use Rattle.program_lines.specs.Lines.{GivesOr, sides_line}
-use Rattle.session_workers.specs.Solo.{own_seat}
+use Rattle.http_requests.specs.Verdicts.{IsEntryOf}
+use Rattle.program_output.specs.Lines.{GivesOr, sides_line}
+use Rattle.service_session.specs.Solo.{own_seat}
 use Rattle.wfs_ends.specs.Ends.{Shown}
 use Rattle.wfs_store.specs.declared.fault.StepFault.{StepFault}
 use Rattle.wfs_store.specs.declared.fault.StepFault.TheVariants.{StoreFault, Full, OutOfMemory}

@@ -4,13 +4,13 @@ use Rattle.std.specs.Prelude.{IfSome}
 use base.Fml.{GName}
 use Rattle.disk_core.specs.declared.disk.Disk.{Ghosts as DiskMeaning}
 use Rattle.wfs_ends.specs.Ends.{Shown, lent}
-use Rattle.session_workers.specs.declared.ending.SessionEnd.{SessionEnd}
-use Rattle.session_workers.specs.declared.ending.SessionEnd.TheVariants as end
-use Rattle.session_workers.specs.declared.service.Service.{Ghosts as Meaning}
-use Rattle.session_workers.specs.Session.{HasCause, IsSession}
-use Rattle.session_workers.specs.Became.{LeavesBegun, StoreBecomes, TalliesAnswers}
-use Rattle.session_workers.specs.Solo.{store_meaning}
-use Rattle.session_workers.proofs.Sessions.{told_map}
+use Rattle.service_session.specs.declared.ending.SessionEnd.{SessionEnd}
+use Rattle.service_session.specs.declared.ending.SessionEnd.TheVariants as end
+use Rattle.service_session.specs.declared.service.Service.{Ghosts as Meaning}
+use Rattle.service_session.specs.Session.{HasCause, IsSession}
+use Rattle.service_session.specs.Became.{LeavesBegun, StoreBecomes, TalliesAnswers}
+use Rattle.service_session.specs.Solo.{store_meaning}
+use Rattle.service_session.proofs.Sessions.{told_map}
 use Rattle.wfs_store.specs.Held.{Held}
 use Rattle.wfsd_commands.specs.declared.done.Done.{Done}
 use Rattle.wfsd_commands.specs.Becoming.{RestsUnless, GoesOn, Stands, IsLeft}

@@ -5,8 +5,8 @@ use Rattle.disk_core.specs.declared.disk.Disk.{Ghosts as DiskMeaning}
 use Rattle.disk_core.specs.declared.pair.Pair.{Pair}
 use Rattle.durable_journal.specs.Standing.{SaysWith}
 use Rattle.feature_journal.specs.Faults.{NoneFell, OneRose}
-use Rattle.message_asks.specs.Verdicts.{Grows, HasLegalHistory, HasEntriesOf}
-use Rattle.session_workers.specs.Solo.{own_seat, served_of}
+use Rattle.http_requests.specs.Verdicts.{Grows, HasLegalHistory, HasEntriesOf}
+use Rattle.service_session.specs.Solo.{own_seat, served_of}
 use Rattle.wfs_model.specs.declared.change.Change.{Change}
 use Rattle.wfs_store.specs.Held.{Held, kept_of}
 use Rattle.wfs_store.specs.Stepped.{SameOpening}

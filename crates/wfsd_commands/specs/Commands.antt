@@ -8,7 +8,7 @@ use Rattle.durable_journal.specs.declared.looking.Counts.{Counts}
 use Rattle.durable_journal.specs.Counted.{AreCountsOf, IsRefusedBy}
 use Rattle.feature_journal.specs.Faults.{NoneFell, OneRose}
 use Rattle.feature_values.specs.declared.schema.Schema.{Schema}
-use Rattle.program_lines.specs.Lines.{GivesOr, counts_line, sides_line}
+use Rattle.program_output.specs.Lines.{GivesOr, counts_line, sides_line}
 use Rattle.recovery.specs.Looked.{Untouched}
 use Rattle.wfs_ends.specs.Ends.{Shown}
 use Rattle.wfs_store.specs.declared.fault.StepFault.{StepFault}

@@ -5,7 +5,7 @@ use Rattle.disk_core.specs.declared.pair.Pair.{Pair}
 use Rattle.drill_requests.specs.Carried.{Course}
 use Rattle.drill_requests.specs.Requests.{drill_of}
 use Rattle.feature_values.specs.declared.schema.Schema.{Schema}
-use Rattle.program_lines.specs.Lines.{GivesOr, bad_words, no_memory, rounds_line}
+use Rattle.program_output.specs.Lines.{GivesOr, bad_words, no_memory, rounds_line}
 use Rattle.wfs_ends.specs.Ends.{Shown}
 use Rattle.wfs_model.specs.declared.request.Request.{Request}
 use Rattle.wfs_store.specs.declared.fault.StepFault.{StepFault}

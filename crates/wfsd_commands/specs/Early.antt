@@ -4,7 +4,7 @@ use Rattle.disk_core.specs.declared.pair.Pair.{Pair}
 use Rattle.feature_schema.specs.declared.fault.SchemaFault.{SchemaFault}
 use Rattle.feature_values.specs.declared.schema.Schema.{Schema}
 use Rattle.http_session.specs.Reading.{IsCalm}
-use Rattle.program_lines.specs.Lines.{GivesOr, bad_words, refused_line, cannot_read, no_memory}
+use Rattle.program_output.specs.Lines.{GivesOr, bad_words, refused_line, cannot_read, no_memory}
 use Rattle.wfs_ends.specs.Ends.{Shown, Rose}
 use Rattle.wfsd_commands.specs.declared.done.Done.{Done}
 use Rattle.wfsd_commands.specs.declared.load.Unloaded.{Unloaded}

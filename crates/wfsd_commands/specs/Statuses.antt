@@ -2,7 +2,7 @@
 use Rattle.std.specs.Prelude.{◌≡◌, ◌⊎◌, ℕ, Bool, true, false, List}
 use Rattle.durable_journal.specs.declared.fault.OpenFault.{OpenFault}
 use Rattle.durable_journal.specs.declared.fault.OpenFault.TheVariants as opening
-use Rattle.program_lines.specs.Lines.{store_fault, full, no_memory, not_a_journal, not_of_schema}
+use Rattle.program_output.specs.Lines.{store_fault, full, no_memory, not_a_journal, not_of_schema}
 use Rattle.wfs_ends.specs.Ends.{Shown, GivesAll, GivesFront}
 use Rattle.wfs_store.specs.declared.fault.StepFault.{StepFault}
 use Rattle.wfs_store.specs.declared.fault.StepFault.TheVariants as step

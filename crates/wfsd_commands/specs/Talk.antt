@@ -4,11 +4,11 @@ use Rattle.disk_core.specs.Sides.{Always}
 use Rattle.disk_core.specs.declared.disk.Disk.{Ghosts as DiskMeaning}
 use Rattle.disk_core.specs.declared.pair.Pair.{Pair}
 use Rattle.feature_values.specs.declared.schema.Schema.{Schema}
-use Rattle.session_workers.specs.declared.ending.SessionEnd.{SessionEnd}
-use Rattle.session_workers.specs.declared.ending.SessionEnd.TheVariants as end
-use Rattle.session_workers.specs.Became.{StoreBecomes, TalliesAnswers, SaysOnTheWay}
-use Rattle.session_workers.specs.Session.{IsSession}
-use Rattle.session_workers.specs.Solo.{store_meaning}
+use Rattle.service_session.specs.declared.ending.SessionEnd.{SessionEnd}
+use Rattle.service_session.specs.declared.ending.SessionEnd.TheVariants as end
+use Rattle.service_session.specs.Became.{StoreBecomes, TalliesAnswers, SaysOnTheWay}
+use Rattle.service_session.specs.Session.{IsSession}
+use Rattle.service_session.specs.Solo.{store_meaning}
 use Rattle.wfs_ends.specs.Ends.{Shown, both}
 use Rattle.wfs_store.specs.Held.{Held}
 use Rattle.wfsd_commands.specs.declared.done.Done.{Done}

@@ -3,7 +3,7 @@
 ghost use Rattle.std.specs.Prelude.{◌≡◌, [], IfOk, IfSome, None};
 ghost use Rattle.disk_core.specs.Sides.{Always};
 ghost use Rattle.feature_schema.specs.Rules.{KeepsRules};
-ghost use Rattle.session_workers.specs.Became.{SaysOnTheWay, StoreBecomes};
+ghost use Rattle.service_session.specs.Became.{SaysOnTheWay, StoreBecomes};
 ghost use Rattle.wfs_ends.specs.Ends.{both};
 ghost use Rattle.wfsd_commands.specs.Becoming.{IsLeft};
 ghost use Rattle.wfsd_commands.specs.Talk.{Heard, HeldBy, MayTalk, TalkEnds, Talks, TalksWith, WasHeld, status_of};
@@ -17,7 +17,7 @@ use crate::statuses::say_unopened;
 use disk_core::{Disk, Pair};
 use feature_values::Schema;
 use http_session::Reader;
-use session_workers::{SessionEnd, solo_session};
+use service_session::{SessionEnd, solo_session};
 use std::alloc::Global;
 use wfs_ends::{Buffer, Clock, Joined, Mem, OutOfMemory, Sink, Source};
 use wfs_store::{Store, stands};

@@ -3,7 +3,7 @@
 ghost use Rattle.std.specs.Prelude.{◌≡◌, ◌⊎◌, [], IfSome, map};
 ghost use Rattle.std.specs.String.{string_bytes};
 ghost use Rattle.feature_schema.specs.Rules.{KeepsRules};
-ghost use Rattle.program_lines.specs.Lines.{GivesOr};
+ghost use Rattle.program_output.specs.Lines.{GivesOr};
 ghost use Rattle.wfsd_commands.specs.Asking.{rounds_in};
 ghost use Rattle.wfsd_commands.specs.Becoming.{IsLeft};
 ghost use Rattle.wfsd_commands.specs.Drilled.{Drills, DrillsBy, DrillsIf, DrillsWith, IsTold, Stops, SumsUp};

@@ -9,7 +9,7 @@ use crate::done::{BAD_WORDS, Done, OUT_OF_MEMORY, READ_FAULT, SCHEMA_REFUSED, le
 use crate::load::Unloaded;
 use disk_core::{Disk, Pair};
 use feature_values::Schema;
-use program_lines::{say, say_refused};
+use program_output::{say, say_refused};
 use std::alloc::Global;
 use wfs_ends::Sink;
 use wfs_model::Limits;

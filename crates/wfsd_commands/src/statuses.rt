@@ -1,12 +1,12 @@
 //! The lines by which commands end, and the statuses that go with them.
 
 ghost use Rattle.std.specs.Prelude.{◌≡◌};
-ghost use Rattle.program_lines.specs.Lines.{GivesOr, counts_line, rounds_line, sides_line};
+ghost use Rattle.program_output.specs.Lines.{GivesOr, counts_line, rounds_line, sides_line};
 ghost use Rattle.wfsd_commands.specs.Statuses.{EndsWith, line_status, stopped_line, stopped_status, unopened_line, unopened_status};
 
 use crate::done::{DONE, FULL, JOURNAL_REFUSED, OUT_OF_MEMORY, STORE_FAULT, WRITE_FAULT};
 use durable_journal::{Counts, OpenFault};
-use program_lines::{put_counts, put_rounds, put_sides, say, say_place, say_record};
+use program_output::{put_counts, put_rounds, put_sides, say, say_place, say_record};
 use wfs_ends::Sink;
 use wfs_store::StepFault;
 

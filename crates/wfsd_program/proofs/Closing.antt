@@ -1,11 +1,11 @@
 -- How services end.
 use Rattle.std.proofs.Common.{◌≡◌, ℕ, Bool, true, false, List, [], Option, sym, subst}
-use Rattle.program_lines.specs.Lines.{GivesOr, no_memory}
+use Rattle.program_output.specs.Lines.{GivesOr, no_memory}
 use Rattle.service_doors.specs.Accepting.{Accepting}
-use Rattle.session_workers.specs.declared.gate.NoGate.{NoGate}
-use Rattle.store_service.specs.declared.slot.Ended.{Ended}
-use Rattle.store_service.specs.declared.slot.Slot.{Slot}
-use Rattle.store_service.specs.Serving.{RunFits}
+use Rattle.service_session.specs.declared.gate.NoGate.{NoGate}
+use Rattle.store_server.specs.declared.slot.Ended.{Ended}
+use Rattle.store_server.specs.declared.slot.Slot.{Slot}
+use Rattle.store_server.specs.Serving.{RunFits}
 use Rattle.wfs_ends.specs.Ends.{Shown, GivesAll, GivesFront, Writes}
 use Rattle.wfs_store.specs.Held.{Held}
 use Rattle.wfsd_commands.proofs.Leaving.{own_store}

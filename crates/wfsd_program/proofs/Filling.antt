@@ -6,8 +6,8 @@ use Rattle.std.proofs.lemmas.List.Elements.{All-pop, All-push}
 use Rattle.std.proofs.lemmas.Simd.{map-map}
 use Rattle.service_doors.specs.Accepting.{Accepting}
 use Rattle.service_doors.specs.Listening.{Listening, Opens, asking}
-use Rattle.session_workers.specs.declared.gate.NoGate.{NoGate}
-use Rattle.store_service.specs.declared.slot.Slot.{Slot}
+use Rattle.service_session.specs.declared.gate.NoGate.{NoGate}
+use Rattle.store_server.specs.declared.slot.Slot.{Slot}
 use Rattle.wfsd_program.specs.declared.places.Places.{Places}
 use Rattle.wfsd_program.specs.declared.words.ServeWords.{ServeWords}
 use Rattle.wfsd_program.specs.Serving.{AreFor, AreReady}

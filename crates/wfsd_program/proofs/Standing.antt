@@ -6,9 +6,9 @@ use Rattle.std.proofs.lemmas.List.Elements.{All-nil, All-weaker}
 use Rattle.disk_core.specs.declared.disk.Disk.{Ghosts as DiskMeaning}
 use Rattle.disk_core.specs.declared.pair.Pair.{Pair}
 use Rattle.feature_journal.specs.Faults.{NoneFell, OneRose}
-use Rattle.message_asks.specs.Verdicts.{IsEntryOf}
-use Rattle.session_workers.specs.Solo.{own_seat}
-use Rattle.store_turns.specs.Openings.{HasLegalHistory, StaysOpen}
+use Rattle.http_requests.specs.Verdicts.{IsEntryOf}
+use Rattle.service_session.specs.Solo.{own_seat}
+use Rattle.shared_store.specs.Openings.{HasLegalHistory, StaysOpen}
 use Rattle.wfs_ends.specs.Ends.{Rose, risen}
 use Rattle.wfs_model.specs.declared.change.Change.{Change}
 use Rattle.wfs_model.specs.OfSchema.{IsOfSchema}

@@ -4,10 +4,10 @@ use Rattle.disk_core.specs.declared.disk.Disk.{Ghosts as DiskMeaning}
 use Rattle.disk_core.specs.declared.pair.Pair.{Pair}
 use Rattle.feature_journal.specs.Faults.{NoneFell}
 use Rattle.service_doors.specs.Listening.{Listening}
-use Rattle.session_workers.specs.declared.gate.NoGate.{NoGate}
-use Rattle.store_service.specs.declared.slot.Ended.{Ended}
-use Rattle.store_service.specs.declared.slot.Slot.{Slot}
-use Rattle.store_turns.specs.Openings.{HasLegalHistory}
+use Rattle.service_session.specs.declared.gate.NoGate.{NoGate}
+use Rattle.store_server.specs.declared.slot.Ended.{Ended}
+use Rattle.store_server.specs.declared.slot.Slot.{Slot}
+use Rattle.shared_store.specs.Openings.{HasLegalHistory}
 use Rattle.wfs_store.specs.Held.{Held}
 use Rattle.wfsd_commands.specs.declared.done.Done.{Done}
 use Rattle.wfsd_commands.specs.Becoming.{RestsSince, Stands}

@@ -2,7 +2,7 @@
 use Rattle.std.specs.Prelude.{◌≡◌, ℕ, List, Option, None, IfSome}
 use Rattle.disk_core.specs.declared.disk.Disk.{Ghosts as DiskMeaning}
 use Rattle.disk_core.specs.declared.pair.Pair.{Pair}
-use Rattle.program_lines.specs.Lines.{bad_words, no_memory}
+use Rattle.program_output.specs.Lines.{bad_words, no_memory}
 use Rattle.service_doors.specs.Accepting.{Accepting}
 use Rattle.service_doors.specs.Listening.{Listening}
 use Rattle.wfs_words.specs.declared.command.Command.TheVariants as command

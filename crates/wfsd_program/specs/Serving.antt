@@ -3,14 +3,14 @@ use Rattle.std.specs.Prelude.{◌≡◌, ◌⊎◌, ℕ, ◌≤◌, List, [], le
 use Rattle.disk_core.specs.declared.disk.Disk.{Ghosts as DiskMeaning}
 use Rattle.disk_core.specs.declared.pair.Pair.{Pair}
 use Rattle.feature_values.specs.declared.schema.Schema.{Schema}
-use Rattle.program_lines.specs.Lines.{GivesOr, no_memory, serving}
+use Rattle.program_output.specs.Lines.{GivesOr, no_memory, serving}
 use Rattle.service_doors.specs.declared.doors.DoorFault.{DoorFault}
 use Rattle.service_doors.specs.Accepting.{Accepting}
 use Rattle.service_doors.specs.Listening.{Listening, Opens, Refuses, asking}
-use Rattle.session_workers.specs.declared.gate.NoGate.{NoGate}
-use Rattle.store_service.specs.declared.slot.Ended.{Ended}
-use Rattle.store_service.specs.declared.slot.Slot.{Slot}
-use Rattle.store_service.specs.Serving.{RunFits}
+use Rattle.service_session.specs.declared.gate.NoGate.{NoGate}
+use Rattle.store_server.specs.declared.slot.Ended.{Ended}
+use Rattle.store_server.specs.declared.slot.Slot.{Slot}
+use Rattle.store_server.specs.Serving.{RunFits}
 use Rattle.wfs_ends.specs.Ends.{Shown, GivesAll, GivesFront}
 use Rattle.wfs_store.specs.Held.{Held}
 use Rattle.wfsd_commands.specs.Early.{Ends, EndsEarly, HasLoaded, SaysNoMemory}

@@ -1,11 +1,11 @@
 -- The lines and the statuses by which a service ends.
 use Rattle.std.specs.Prelude.{◌≡◌, ◌⊎◌, ℕ, List, All, Any}
-use Rattle.program_lines.specs.Lines.{GivesOr, cannot_listen, no_memory}
+use Rattle.program_output.specs.Lines.{GivesOr, cannot_listen, no_memory}
 use Rattle.service_doors.specs.declared.doors.DoorFault.{DoorFault}
 use Rattle.service_doors.specs.declared.doors.DoorFault.TheVariants as fault
-use Rattle.service_workers.specs.declared.ending.WorkerEnd.{WorkerEnd}
-use Rattle.service_workers.specs.declared.ending.WorkerEnd.TheVariants as end
-use Rattle.store_service.specs.declared.slot.Ended.{Ended}
+use Rattle.session_workers.specs.declared.ending.WorkerEnd.{WorkerEnd}
+use Rattle.session_workers.specs.declared.ending.WorkerEnd.TheVariants as end
+use Rattle.store_server.specs.declared.slot.Ended.{Ended}
 use Rattle.wfs_ends.specs.Ends.{Shown}
 
 -- ---- doors that are not opened

@@ -1,13 +1,13 @@
 //! The lines by which a service ends, and the statuses that go with them.
 
 ghost use Rattle.std.specs.Prelude.{◌≡◌, All, Any, MatchBool};
-ghost use Rattle.program_lines.specs.Lines.{GivesOr};
+ghost use Rattle.program_output.specs.Lines.{GivesOr};
 ghost use Rattle.wfsd_program.specs.Statuses.{EndsBy, HasEndedWell, HasFailed, IsFailure, IsWell, unheard_line, unheard_status};
 
-use program_lines::say;
+use program_output::say;
 use service_doors::DoorFault;
-use service_workers::WorkerEnd;
-use store_service::Ended;
+use session_workers::WorkerEnd;
+use store_server::Ended;
 use wfs_ends::Sink;
 use wfsd_commands::{DONE, OUT_OF_MEMORY};
 

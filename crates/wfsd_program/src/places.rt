@@ -3,9 +3,9 @@
 ghost use Rattle.std.specs.Prelude.{◌≡◌, All, IfOk, length, map};
 ghost use Rattle.wfsd_program.specs.Serving.{AreFor};
 
-use session_workers::NoGate;
+use service_session::NoGate;
 use std::alloc::Global;
-use store_service::Slot;
+use store_server::Slot;
 use wfs_ends::{Clock, Mem};
 
 /// What can be made for workers before the doors are asked: a clock for each, and the memory of the list of what they are to be given.

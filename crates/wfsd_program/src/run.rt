@@ -4,9 +4,9 @@ ghost use Rattle.std.specs.Prelude.{◌≡◌, []};
 ghost use Rattle.wfsd_program.specs.Left.{LeavesNobody, LeavesService, done_of};
 
 use disk_core::{Disk, Pair};
-use session_workers::NoGate;
+use service_session::NoGate;
 use std::alloc::Global;
-use store_service::{Ended, Slot};
+use store_server::{Ended, Slot};
 use wfs_store::Store;
 use wfsd_commands::Done;
 

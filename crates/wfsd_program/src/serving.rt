@@ -12,13 +12,13 @@ use crate::run::{Run, leave_ended, leave_idle, without_workers};
 use crate::words::ServeWords;
 use disk_core::{Disk, Pair};
 use feature_values::Schema;
-use program_lines::{put_serving, say};
+use program_output::{put_serving, say};
 use service_doors::{Acceptor, Doors};
-use session_workers::NoGate;
+use service_session::NoGate;
 use std::alloc::Global;
 use std::sync::Wait;
 use std::thread::Threads;
-use store_service::{Served, Slot};
+use store_server::{Served, Slot};
 use wfs_ends::{Clock, OutOfMemory, Sink, Source};
 use wfs_store::{Store, stands};
 use wfsd_commands::{
@@ -243,7 +243,7 @@ where
         (O.sink out.old) result (O.sink out.new) }
     ensures left { IfSome result.store (IsLeftStanding D.Disk store.disks) }
 {
-    match store_service::serve(rt, alloc, store, schema, slots, limit) {
+    match store_server::serve(rt, alloc, store, schema, slots, limit) {
         Served::Ran { store, workers } => {
             let status = say_ended(out, &workers);
             leave_ended(alloc, status, store, workers)

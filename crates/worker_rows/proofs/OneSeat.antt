@@ -9,10 +9,10 @@ use Rattle.feature_values.specs.declared.schema.Schema.{Schema}
 use Rattle.snapshot_reads.specs.declared.publisher.Publisher.{Publisher}
 use Rattle.snapshot_reads.specs.declared.viewer.Viewer.{Viewer}
 use Rattle.snapshot_reads.specs.Viewers.{AreNew, schema_of}
-use Rattle.store_turns.proofs.Taken.{same_head}
-use Rattle.store_turns.specs.declared.counter.Counter.{Counter}
-use Rattle.store_turns.specs.Knowing.{Known}
-use Rattle.store_turns.specs.Seats.{HasViewer, IsOfOpening}
+use Rattle.shared_store.proofs.Taken.{same_head}
+use Rattle.shared_store.specs.declared.counter.Counter.{Counter}
+use Rattle.shared_store.specs.Knowing.{Known}
+use Rattle.shared_store.specs.Seats.{HasViewer, IsOfOpening}
 use Rattle.turnstile_core.proofs.Callers.{all_in_order}
 use Rattle.turnstile_core.specs.Closing.{AreAllSeats}
 use Rattle.turnstile_core.specs.Steps.{fresh_past}

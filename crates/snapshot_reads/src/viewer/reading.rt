@@ -19,12 +19,9 @@ use std::alloc::Global;
 use std::sync::Wait;
 use stored_queries::answer;
 use wfs_ends::Mem;
-use wfs_model::Request;
+use wfs_model::{LAST_MOMENT, Request};
 
 type Eyes = Reader<Shown, Knows, Published>;
-
-// The latest moment that an answer prints.
-const LAST_MOMENT: u64 = 200_000_000_000;
 
 // What is given for what is published.
 fn view_of(alloc: Global, shown: &Shown, told: u64, moment: u64, request: &Request) -> Mem<Viewed>

@@ -9,8 +9,8 @@ use super::{
 use disk_core::MemDisk;
 use feature_values::Schema;
 use service_doors::MemAcceptor;
-use service_workers::{WorkerEnd, work};
-use session_workers::NoGate;
+use service_session::NoGate;
+use session_workers::{WorkerEnd, work};
 use std::alloc::Global;
 use std::sync::Wait;
 use std::test::Fail;

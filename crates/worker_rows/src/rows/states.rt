@@ -14,7 +14,7 @@ use std::alloc::Global;
 use std::sync::Wait;
 use std::test::Fail;
 use std::thread::Threads;
-use store_service::Slot;
+use store_server::Slot;
 use wfs_ends::Mem;
 
 const READ: &str =

@@ -4,8 +4,8 @@ ghost use Rattle.std.specs.Prelude.{◌≡◌, ◌<◌, [], IfSome, replicate, v
 ghost use Rattle.feature_schema.specs.Rules.{KeepsRules};
 ghost use Rattle.feature_values.specs.declared.schema.Schema.{Schema};
 ghost use Rattle.snapshot_reads.specs.Viewers.{AreNew, schema_of};
-ghost use Rattle.store_turns.specs.Knowing.{KnowsMore};
-ghost use Rattle.store_turns.specs.Seats.{HasViewer, IsOfOpening};
+ghost use Rattle.shared_store.specs.Knowing.{KnowsMore};
+ghost use Rattle.shared_store.specs.Seats.{HasViewer, IsOfOpening};
 ghost use Rattle.turnstile_core.specs.Seats.{name_of, past, IsFreeAt};
 
 use super::{
@@ -14,12 +14,12 @@ use super::{
 };
 use disk_core::Disk;
 use feature_values::Schema;
-use service_workers::work;
+use session_workers::work;
+use shared_store::{Counter, Desk};
 use snapshot_reads::{Publisher, Viewer};
 use std::alloc::Global;
 use std::sync::Wait;
 use std::test::Fail;
-use store_turns::{Counter, Desk};
 use turnstile_core::{Returned, Seat, Turnstile};
 use wfs_ends::{Mem, OutOfMemory};
 use wfs_store::Store;

@@ -1,7 +1,7 @@
 -- The one seat is of the opening of the store, and its viewer of what was published first.
 use Rattle.std.proofs.Common.{◌≡◌, ◌∷◌, [], ap, ◌∙◌}
-use Rattle.store_turns.specs.declared.counter.Counter.{Counter}
-use Rattle.store_turns.specs.Knowing.{Known}
+use Rattle.shared_store.specs.declared.counter.Counter.{Counter}
+use Rattle.shared_store.specs.Knowing.{Known}
 use Rattle.turnstile_core.specs.Seats.{past}
 use Rattle.wfs_store.specs.Held.{Held}
 use Rattle.worker_rows.proofs.OneSeat.{is_open, all_new, may_serve}

@@ -1,6 +1,0 @@
-use Rattle.std.proofs.Common.{◌∙◌}
-use Rattle.doc_attributes.proofs.Listed.{list_any_now}
-use Rattle.doc_attributes.proofs.names.is_among.Goals as goal
-
-pub returns : goal.returns
-returns c = c.any_is.ensures ∙ list_any_now c.args.name.now c.args.names.now

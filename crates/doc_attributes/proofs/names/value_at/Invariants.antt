@@ -1,6 +1,0 @@
-use Rattle.std.proofs.Common.{◌≡◌, drop}
-use Rattle.doc_attributes.specs.Names.{value_at}
-use Rattle.doc_attributes.proofs.names.value_at.Given as goal
-
-abbrev pub invariant-loop-attribute : goal.invariant-loop-attribute
-invariant-loop-attribute l = value_at l.space l.local (drop l.attribute-index l.attributes) ≡ value_at l.space l.local l.attributes

@@ -1,5 +1,0 @@
-use Rattle.session_workers.specs.Solo.{none}
-use Rattle.session_workers.proofs.solo.carry_out.Goals as goal
-
-pub returns-else-is_change-clause-steps : goal.returns-else-is_change-clause-steps
-returns-else-is_change-clause-steps g c = none

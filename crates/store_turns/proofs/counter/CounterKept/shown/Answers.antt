@@ -1,6 +1,0 @@
--- No more is shown than there is.
-use Rattle.std.proofs.Common.{arith}
-use Rattle.store_turns.proofs.counter.CounterKept.shown.Goals as goal
-
-pub returns-clause-below : goal.returns-clause-below
-returns-clause-below g c = omega arith

@@ -1,6 +1,0 @@
--- A change finds nothing published.
-use Rattle.store_turns.proofs.Taken.{found_same}
-use Rattle.store_turns.proofs.taking.carry_out.Goals as goal
-
-pub returns-then-is_change-clause-found : goal.returns-then-is_change-clause-found
-returns-then-is_change-clause-found g c = found_same _ _ c.take_step.ensures.found
