@@ -98,7 +98,8 @@ def locked(lock: str = "", taken=(), free=()) -> str:
     name = ' lockId="%s"' % lock if lock else ""
     took = "<wfs:FeaturesLocked>%s</wfs:FeaturesLocked>" % _ids(taken) if taken else ""
     left = "<wfs:FeaturesNotLocked>%s</wfs:FeaturesNotLocked>" % _ids(free) if free else ""
-    return "%s<wfs:LockFeatureResponse%s%s%s>%s%s</wfs:LockFeatureResponse>" % (START, WFS, FES, name, took, left)
+    end = ">%s%s</wfs:LockFeatureResponse>" % (took, left) if took + left else "/>"
+    return "%s<wfs:LockFeatureResponse%s%s%s%s" % (START, WFS, FES, name, end)
 
 
 def collection(matched: int, *members: str, returned: int = None, more: str = "", name: str = "FeatureCollection", moment: str = MOMENT) -> str:
@@ -112,6 +113,23 @@ def feature(rid: str, **values: str) -> str:
     """A feature with values that are written as they stand."""
     name = "m:" + rid.split(".")[0]
     return '<%s gml:id="%s">%s</%s>' % (name, rid, "".join("<m:%s>%s</m:%s>" % (key, it, key) for key, it in values.items()), name)
+
+
+# The properties of each type of the marks' schema, as their schema document has them.
+PROPERTIES = {
+    "Mark": '<xs:element name="label" type="xs:string"/><xs:element name="size" type="xs:long" minOccurs="0"/><xs:element name="place" type="gml:PointPropertyType" minOccurs="0"/>',
+    "Field": '<xs:element name="name" type="xs:string" minOccurs="0"/><xs:element name="area" type="gml:SurfacePropertyType" minOccurs="0"/>',
+    "Way": '<xs:element name="course" type="gml:CurvePropertyType" minOccurs="0"/>',
+}
+
+
+def types(*names: str) -> str:
+    """The schema document of these types."""
+    kind = '<xs:element name="%s" type="m:%sType" substitutionGroup="gml:AbstractFeature"/><xs:complexType name="%sType"><xs:complexContent><xs:extension base="gml:AbstractFeatureType"><xs:sequence>%s</xs:sequence></xs:extension></xs:complexContent></xs:complexType>'
+    spaces = ' xmlns:xs="http://www.w3.org/2001/XMLSchema"' + GML + MARKS_SPACE
+    gml = '<xs:import namespace="http://www.opengis.net/gml/3.2" schemaLocation="http://schemas.opengis.net/gml/3.2.1/gml.xsd"/>'
+    kinds = "".join(kind % (name, name, name, PROPERTIES[name]) for name in names)
+    return '%s<xs:schema%s targetNamespace="http://example.org/marks" elementFormDefault="qualified">%s%s</xs:schema>' % (START, spaces, gml, kinds)
 
 
 def at_one_moment(output: bytes) -> str:
