@@ -11,7 +11,9 @@ OPTION = "option refused"
 NO_VERSION = "no common version"
 UNFIT = "value does not fit"
 UNKNOWN_LOCK = "unknown lock"
+EXPIRED = "lock has expired"
 SEVERAL = "more than one feature"
+NOT_FREE = "not all are free"
 EXISTS = "query exists"
 TWICE = "parameter twice"
 NO_FEATURE = "no such feature"
@@ -29,11 +31,13 @@ HEADS = {
     NO_VERSION: (400, "VersionNegotiationFailed"),
     UNFIT: (400, "InvalidValue"),
     UNKNOWN_LOCK: (400, "InvalidLockId"),
+    EXPIRED: (403, "LockHasExpired"),
     SEVERAL: (400, "InvalidValue"),
+    NOT_FREE: (409, "CannotLockAllFeatures"),
     EXISTS: (409, "DuplicateStoredQueryIdValue"),
     TWICE: (400, "DuplicateStoredQueryParameterName"),
     NO_FEATURE: (404, "InvalidParameterValue"),
-    NO_QUERY: (404, "InvalidParameterValue"),
+    NO_QUERY: (400, "InvalidParameterValue"),
     UNKNOWN_PATH: (404, "NoApplicableCode"),
     UNKNOWN_METHOD: (501, "OperationNotSupported"),
 }
