@@ -20,6 +20,7 @@ NO_FEATURE = "no such feature"
 NO_QUERY = "no such query"
 UNKNOWN_PATH = "unknown path"
 UNKNOWN_METHOD = "unknown method"
+FULL = "full"
 
 HEADS = {
     BAD_DOCUMENT: (400, "OperationParsingFailed"),
@@ -40,6 +41,7 @@ HEADS = {
     NO_QUERY: (400, "InvalidParameterValue"),
     UNKNOWN_PATH: (404, "NoApplicableCode"),
     UNKNOWN_METHOD: (501, "OperationNotSupported"),
+    FULL: (503, "NoApplicableCode"),
 }
 
 
