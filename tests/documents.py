@@ -73,6 +73,17 @@ OPERATIONS = [
     ("<GetCapabilities service='WFS'><o:AcceptVersions><Version>2.0.0</Version></o:AcceptVersions></GetCapabilities>", MISPLACED, "Version"),
     ("<DescribeStoredQueries service='WFS'><StoredQueryId a='1'>q</StoredQueryId></DescribeStoredQueries>", OPTION, "a"),
     ("<ListStoredQueries service='WFS' Handle='h'/>", OPTION, "Handle"),
+    # Numbers are digits alone, up to 4,294,967,295.
+    ("<GetFeature service='WFS' count='4294967296'/>", REFUSED, "count"),
+    ("<GetFeature service='WFS' count='+1'/>", REFUSED, "count"),
+    ("<GetFeature service='WFS' count=' 1'/>", REFUSED, "count"),
+    ("<GetFeature service='WFS' startIndex='-1'/>", REFUSED, "startIndex"),
+    ("<GetFeature service='WFS' outputFormat='application/json'/>", REFUSED, "outputFormat"),
+    ("<GetFeature service='WFS' resolve='local'/>", OPTION, "resolve"),
+    ("<GetFeature service='WFS' handle='h' mark='1'/>", OPTION, "mark"),
+    ("<LockFeature service='WFS' lockAction='some'/>", REFUSED, "lockAction"),
+    ("<LockFeature service='WFS' expiry='0'/>", REFUSED, "expiry"),
+    ("<DropStoredQuery service='WFS' id='http://www.opengis.net/def/query/OGC-WFS/0/GetFeatureById'/>", OPTION, "storedQuery_id"),
 ]
 
 
@@ -96,6 +107,7 @@ READ = [
     ("<GetCapabilities service='WFS'/>", root, "wfs:WFS_Capabilities"),
     ("<GetCapabilities service='WFS'><o:Sections a='1'/><o:AcceptVersions><o:Version>1.1.0</o:Version><o:Version>2.0.0</o:Version></o:AcceptVersions><o:AcceptFormats/></GetCapabilities>", root, "wfs:WFS_Capabilities"),
     ("<GetCapabilities service='WFS'><o:AcceptVersions/></GetCapabilities>", root, "wfs:WFS_Capabilities"),
+    ("<GetCapabilities service='WFS'><o:AcceptVersions><o:Version>2.0.0</o:Version></o:AcceptVersions></GetCapabilities>", root, "wfs:WFS_Capabilities"),
     ("<DescribeFeatureType service='WFS' version='2.0.0' handle='h'/>", types, "Mark Field Way Lamp"),
     ("<DescribeFeatureType outputFormat='text/xml; subtype=gml/3.2' service='WFS'/>", types, "Mark Field Way Lamp"),
     ("<DescribeFeatureType service='WFS'><TypeName>m:Way</TypeName><TypeName>Mark</TypeName></DescribeFeatureType>", types, "Way Mark"),

@@ -49,6 +49,7 @@ OPERATIONS = [
     ("ListStoredQueries&version=3", REFUSED, "version"),
     ("DropStoredQuery", MISSING, "storedQuery_id"),
     ("DropStoredQuery&storedQuery_id=urn:ogc:def:query:OGC-WFS::GetFeatureById", OPTION, "storedQuery_id"),
+    ("DropStoredQuery&storedQuery_id=http://www.opengis.net/def/query/OGC-WFS/0/GetFeatureById", OPTION, "storedQuery_id"),
     ("GetFeature&typeNames=Nope&srsName=x", REFUSED, "typeNames"),
     ("GetPropertyValue&typeNames=Nope", REFUSED, "typeNames"),
     ("GetFeatureWithLock&typeNames=Nope&count=x", REFUSED, "count"),
