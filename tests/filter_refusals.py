@@ -1,11 +1,11 @@
 """Filters that are refused, by POST and by GET: which element, attribute or name the refusal points at (OGC 09-026r2, sections 7.5 to
-7.11). What stands first in the document is judged first."""
+7.11). The first fault in the document decides."""
 
 from filters import SCHEMA, by_get, by_post, filter_of
 from harness import Folder, request, rows
 from refusals import MISPLACED, OPTION, REFUSED, all_refused
 
-# What may not stand where it does, or has to stand and does not.
+# Elements in a wrong place, too many, or missing.
 MISPLACED_PARTS = [
     ("", MISPLACED, "Filter"),
     ("<PropertyIsNull><ValueReference>size</ValueReference></PropertyIsNull><PropertyIsNull><ValueReference>size</ValueReference></PropertyIsNull>", MISPLACED, "PropertyIsNull"),
@@ -117,25 +117,21 @@ GEOMETRIES = [
 ]
 
 
-def is_refused_by_both(table: list) -> None:
+@rows(("elements in a wrong place", MISPLACED_PARTS), ("options and names", REFUSED_PARTS), ("geometries", GEOMETRIES))
+def test_the_first_fault_of_a_filter_is_named(table):
     with Folder(SCHEMA) as folder:
         all_refused(folder, by_post, table)
         all_refused(folder, by_get, table)
 
 
-@rows(("elements in a wrong place", MISPLACED_PARTS), ("options and names", REFUSED_PARTS), ("geometries", GEOMETRIES))
-def test_the_first_fault_of_a_filter_is_named(table):
-    is_refused_by_both(table)
-
-
-# A filter whole, as the parameter of a query has it, and within a query of a document where it is the same.
+# A filter with its own element.
 WHOLE = [
     (filter_of("<PropertyIsNull><ValueReference>size</ValueReference></PropertyIsNull>", ' a="1"'), OPTION, "a"),
     (filter_of(""), MISPLACED, "Filter"),
 ]
 
 
-def test_other_attributes_of_a_filter_are_refused():
+def test_what_the_element_of_a_filter_may_have():
     with Folder(SCHEMA) as folder:
         all_refused(folder, lambda text: request("GetFeature", '<wfs:Query typeNames="Mark">%s</wfs:Query>' % text), WHOLE)
         all_refused(folder, lambda text: by_get(text, whole=True), WHOLE)

@@ -146,7 +146,7 @@ def test_what_a_filter_finds_from_a_stored_query():
 
 
 def nulls(count: int, after: str = "") -> bytes:
-    """An Or of some operators, and of what stands after them in it."""
+    """An Or of some operators, and of what follows them in it."""
     return by_post("<Or>%s%s</Or>" % ("<PropertyIsNull><ValueReference>size</ValueReference></PropertyIsNull>" * count, after))
 
 

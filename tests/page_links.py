@@ -11,8 +11,8 @@ from samples import SCHEMA, features, found
 # How a link begins.
 LINK = "http://localhost:8080/wfs?service=WFS&request=GetFeature&"
 
-# After `service=WFS&request=GetFeature&`, of seven marks: what is asked; what stands behind the beginning of the links to the page after it,
-# and to the one before it.
+# What is asked of seven marks, after `service=WFS&request=GetFeature&`; and what follows the beginning of the link to the page after it, and
+# of the link to the page before it.
 LINKS = [
     ("typeNames=Mark&count=2&startIndex=4", "typeNames=Mark&startIndex=6&count=2", "typeNames=Mark&startIndex=2&count=2"),
     ("COUNT=2&typeNames=m:Mark&startindex=&count=", "typeNames=m%3AMark&startIndex=2&count=2", None),
