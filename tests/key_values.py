@@ -133,7 +133,13 @@ def test_the_first_fault_is_named():
 # ---- what is asked
 
 PLACES = inserted(
-    mark("B", 1, "1 2"), mark("A", 2, "3 4"), mark("C", None, "2 1"), mark("A", 1, "5 5"), mark("D", 3, "7 0"), mark("E", None, "-1 3"), mark("a b", 2),
+    mark("B", 1, "1 2"),
+    mark("A", 2, "3 4"),
+    mark("C", None, "2 1"),
+    mark("A", 1, "5 5"),
+    mark("D", 3, "7 0"),
+    mark("E", None, "-1 3"),
+    mark("a b", 2),
     "<m:Field><m:name>x</m:name></m:Field><m:Field><m:name>y</m:name></m:Field>",
     "<m:Way><m:course><g:LineString><g:posList>0 5 1000000000 5</g:posList></g:LineString></m:course></m:Way>",
     "<m:Way><m:course><g:LineString><g:posList>-1000000000 -1000000000 0 0</g:posList></g:LineString></m:course></m:Way>",
@@ -153,9 +159,20 @@ def stored(name: str, *tests: str) -> str:
 
 
 STORED = creation(
-    stored("urn:q", "label=id") + stored("locks", "label=ID", "size=EXPIRY", "label=LOCKID") + stored("values", "label=valueReference") + stored("words", "label=handle", "size=acceptVersions")
-    + stored("others", "size=id", "label=lockAction") + stored("lock", "label=lockId") + stored("count", "size=count") + stored("sized", "size=size") + stored("urn:q,r", "label=id")
-)  # fmt: skip
+    "".join(
+        [
+            stored("urn:q", "label=id"),
+            stored("locks", "label=ID", "size=EXPIRY", "label=LOCKID"),
+            stored("values", "label=valueReference"),
+            stored("words", "label=handle", "size=acceptVersions"),
+            stored("others", "size=id", "label=lockAction"),
+            stored("lock", "label=lockId"),
+            stored("count", "size=count"),
+            stored("sized", "size=size"),
+            stored("urn:q,r", "label=id"),
+        ]
+    )
+)
 STORED_IDS = "urn:q locks values words others lock count sized urn:q,r"
 
 
