@@ -213,10 +213,27 @@ static SERVICE: [Row; 4] = [
     ),
 ];
 
+// A lock for which no period was given lives for 300 seconds: that on Mark.1 since 1211.
+static PERIODS: [Row; 2] = [
+    (
+        "GET /wfs?service=WFS&request=LockFeature&resourceId=Mark.1 HTTP/1.1\r\nHost: h\r\n\r\n",
+        "409 Conflict",
+        "text/xml",
+        "<?xml version=\"1.0\" encoding=\"UTF-8\"?><ows:ExceptionReport xmlns:ows=\"http://www.opengis.net/ows/1.1\" version=\"2.0.2\"><ows:Exception exceptionCode=\"CannotLockAllFeatures\" locator=\"Mark.1\"><ows:ExceptionText>not all are free</ows:ExceptionText></ows:Exception></ows:ExceptionReport>",
+    ),
+    (
+        "GET /wfs?service=WFS&request=LockFeature&resourceId=Mark.1 HTTP/1.1\r\nHost: h\r\n\r\n",
+        "200 OK",
+        "text/xml",
+        "<?xml version=\"1.0\" encoding=\"UTF-8\"?><wfs:LockFeatureResponse xmlns:wfs=\"http://www.opengis.net/wfs/2.0\" xmlns:fes=\"http://www.opengis.net/fes/2.0\" lockId=\"lock-1-5\"><wfs:FeaturesLocked><fes:ResourceId rid=\"Mark.1\"/></wfs:FeaturesLocked></wfs:LockFeatureResponse>",
+    ),
+];
+
 // The moments at which the messages come, in seconds.
-static MOMENTS: [u64; 31] = [
+static MOMENTS: [u64; 33] = [
     1000, 1000, 1000, 1010, 1050, 1060, 1060, 1060, 1109, 1208, 1209, 1210, 1211, 1211, 1212, 1212,
-    1212, 1212, 1212, 1213, 1213, 1213, 1213, 1213, 1213, 1213, 1213, 1214, 1214, 1215, 1216,
+    1212, 1212, 1212, 1213, 1213, 1213, 1213, 1213, 1213, 1213, 1213, 1214, 1214, 1215, 1216, 1510,
+    1511,
 ];
 
 fn add_inputs(text: &mut String, rows: &[Row]) -> Mem<()> {
@@ -239,7 +256,8 @@ fn add_all_inputs(text: &mut String) -> Mem<()> {
     add_inputs(text, &ENDED_LOCKS)?;
     add_inputs(text, &READS)?;
     add_inputs(text, &STORED)?;
-    add_inputs(text, &SERVICE)
+    add_inputs(text, &SERVICE)?;
+    add_inputs(text, &PERIODS)
 }
 
 fn add_all_outputs(text: &mut String) -> Mem<()> {
@@ -248,10 +266,11 @@ fn add_all_outputs(text: &mut String) -> Mem<()> {
     add_outputs(text, &ENDED_LOCKS)?;
     add_outputs(text, &READS)?;
     add_outputs(text, &STORED)?;
-    add_outputs(text, &SERVICE)
+    add_outputs(text, &SERVICE)?;
+    add_outputs(text, &PERIODS)
 }
 
-// Whether a session over this input, each message at its moment, comes to this output. Of the messages 20 are entries:
+// Whether a session over this input, each message at its moment, comes to this output. Of the messages 22 are entries:
 // those that ask for a change, also where they are refused.
 fn comes_to<R: Threads + Wait + Sync>(
     rt: &R,
@@ -263,7 +282,7 @@ fn comes_to<R: Threads + Wait + Sync>(
     let words = &["talk", "d"];
     let ready = make_ready_at(alloc, clock, words, SCHEMA, input, &[], 40_000)?;
     let (end, out) = go_empty(rt, alloc, ready)?;
-    Ok(end == (0, Some(20)) && out.bytes() == output.as_bytes())
+    Ok(end == (0, Some(22)) && out.bytes() == output.as_bytes())
 }
 
 // Whether a session over all messages comes to all answers.
