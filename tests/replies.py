@@ -184,7 +184,9 @@ def test_a_lock_names_what_it_took_and_what_not():
             locked("", (), ("Flag.2",)),
             locked("", (), ()),
         ]
-        for output, body in zip(run.output.split(b"HTTP/1.1")[2:], wanted, strict=True):
+        outputs = run.output.split(b"HTTP/1.1")[2:]
+        same(len(outputs), len(wanted))
+        for output, body in zip(outputs, wanted):
             is_answered(b"HTTP/1.1" + output, body)
 
 
