@@ -1,12 +1,6 @@
-//! Rows of documents: texts, trees, attributes, elements and moments, each beside what the standards say of it.
+//! Rows of documents: trees as text, read again, and moments, each beside what the standards say of it.
 #![tactic(auto)]
 
-#[cfg(test)]
-mod attributes;
-#[cfg(test)]
-mod documents;
-#[cfg(test)]
-mod elements;
 #[cfg(test)]
 mod laws;
 #[cfg(test)]

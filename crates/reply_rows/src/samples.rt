@@ -18,16 +18,12 @@ static FLAG: [Named; 2] = [
     ("lit", ValueKind::Truth, false),
 ];
 
-// Marks and flags, in this namespace.
-fn marks_in(alloc: Global, space: &str) -> Mem<Schema> {
+// Marks and flags.
+fn marks(alloc: Global) -> Mem<Schema> {
     let mut types = Vec::new(alloc);
     types.push(feature_type(alloc, "Mark", &MARK)?)?;
     types.push(feature_type(alloc, "Flag", &FLAG)?)?;
-    schema(alloc, "Marks", space, types)
-}
-
-fn marks(alloc: Global) -> Mem<Schema> {
-    marks_in(alloc, "http://example.org/marks")
+    schema(alloc, types)
 }
 
 pub(crate) fn feature(alloc: Global, kind: u32, number: u64, values: Vec<Value>) -> Mem<Feature> {
@@ -75,13 +71,6 @@ fn expected(alloc: Global, media: &str, size: u64, close: bool, body: &str) -> M
     )?)
 }
 
-// Whether a reply is put as these bytes.
-pub(crate) fn are_bytes(alloc: Global, reply: &Reply, close: bool, bytes: &[u8]) -> Mem<bool> {
-    let schema = marks(alloc)?;
-    let answer = given(alloc, reply, &schema, close)?;
-    Ok(answer.bytes() == bytes)
-}
-
 fn is_put(
     alloc: Global,
     reply: &Reply,
@@ -91,10 +80,12 @@ fn is_put(
     body: &str,
 ) -> Mem<bool> {
     let text = expected(alloc, media, size, close, body)?;
-    are_bytes(alloc, reply, close, text.as_bytes())
+    let schema = marks(alloc)?;
+    let answer = given(alloc, reply, &schema, close)?;
+    Ok(answer.bytes() == text.as_bytes())
 }
 
-pub(crate) fn length_of(alloc: Global, reply: &Reply) -> Mem<u64> {
+fn length_of(alloc: Global, reply: &Reply) -> Mem<u64> {
     let schema = marks(alloc)?;
     Ok(reply_length(reply, &schema))
 }
@@ -119,19 +110,4 @@ pub(crate) fn is_given_last(
     body: &str,
 ) -> Mem<bool> {
     is_put(alloc, reply, true, media, size, body)
-}
-
-// Whether a reply is given so where the prefix is another and the namespace one with characters that are escaped.
-pub(crate) fn is_escaped(
-    alloc: Global,
-    reply: &Reply,
-    media: &str,
-    size: u64,
-    body: &str,
-) -> Mem<bool> {
-    let mut schema = marks_in(alloc, "urn:x:\"a&b")?;
-    schema.prefix = Text::of(alloc, "fl")?;
-    let text = expected(alloc, media, size, false, body)?;
-    let answer = given(alloc, reply, &schema, false)?;
-    Ok(answer.bytes() == text.as_bytes())
 }

@@ -7,8 +7,7 @@ use wfs_ends::{List, Mem, Text};
 /// A property: its name, its kind, and whether it is required.
 pub(crate) type Named = (&'static str, ValueKind, bool);
 
-/// A list of these texts.
-pub(crate) fn texts(alloc: Global, all: &[&str]) -> Mem<List<Text>> {
+fn texts(alloc: Global, all: &[&str]) -> Mem<List<Text>> {
     let mut found = Vec::new(alloc);
     for text in all {
         found.push(Text::of(alloc, text)?)?;
@@ -33,17 +32,12 @@ pub(crate) fn feature_type(alloc: Global, name: &str, properties: &[Named]) -> M
     })
 }
 
-/// A schema of these types, in this namespace.
-pub(crate) fn schema(
-    alloc: Global,
-    title: &str,
-    space: &str,
-    types: Vec<FeatureType>,
-) -> Mem<Schema> {
+/// A schema of these types.
+pub(crate) fn schema(alloc: Global, types: Vec<FeatureType>) -> Mem<Schema> {
     Ok(Schema {
-        title: Text::of(alloc, title)?,
+        title: Text::of(alloc, "Marks")?,
         address: Text::of(alloc, "http://localhost:8080/wfs")?,
-        space: Text::of(alloc, space)?,
+        space: Text::of(alloc, "http://example.org/marks")?,
         prefix: Text::of(alloc, "m")?,
         srs: texts(alloc, &["urn:ogc:def:crs:EPSG::25832", "EPSG:25832"])?,
         types: List::of(types),

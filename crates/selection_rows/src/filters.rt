@@ -1,19 +1,17 @@
-//! A mark and the filters that are put to it. What is expected comes from OGC 09-026r2, and where that leaves a choice from
+//! Filters for marks, each of one operator. What is expected comes from OGC 09-026r2, and where that leaves a choice from
 //! what the public functions say.
 
-use feature_values::{Feature, Rid, Value};
+use feature_values::{Rid, Value};
 use fes_filter::{By, Expr, Filter, IdRef, LikePart};
-use geom_core::{Box2, Geometry, Line, Polygon, Pos, Ring};
+use geom_core::{Box2, Geometry, Pos};
 use std::alloc::Global;
-use wfs_ends::{Boxed, List, Mem, Shared, Text};
+use wfs_ends::{Boxed, List, Mem, Text};
 
 mod checks;
 mod copies;
-mod likes;
-mod truths;
 
-// The properties of a mark: a text, a whole number, a truth value, a null number, a null text, a field, a way and a null
-// point; and one that it has not.
+// The properties of a mark: a text, a whole number, a truth value, a number, a text, a field, a way and a point; and one
+// that it has not.
 const LABEL: u32 = 0;
 
 const SIZE: u32 = 1;
@@ -33,8 +31,6 @@ const SPOT: u32 = 7;
 const OTHER: u32 = 8;
 
 type Place = (i64, i64);
-
-const FAR: i64 = 1_000_000_000;
 
 /// A side of a comparison, or a bound.
 #[derive(Clone, Copy)]
@@ -57,7 +53,6 @@ enum Sketch {
     Between(u32, Side, Side),
     /// One of nobody and this identifier.
     Id(u32, u64),
-    Nobody,
     InBox(Option<u32>, Place, Place),
     Meets(u32, Place),
     Apart(u32, Place),
@@ -95,9 +90,10 @@ fn between(alloc: Global, property: u32, low: Side, high: Side) -> Mem<Filter> {
     })
 }
 
-fn like(alloc: Global, property: u32, parts: &[LikePart]) -> Mem<Filter> {
+// Like any text.
+fn like(alloc: Global, property: u32) -> Mem<Filter> {
     let mut pattern = Vec::new(alloc);
-    pattern.extend_from_slice(parts)?;
+    pattern.push(LikePart::Many)?;
     Ok(Filter::Like {
         property,
         pattern: List::of(pattern),
@@ -119,11 +115,10 @@ fn at(place: Place) -> Pos {
 fn filter(alloc: Global, sketch: Sketch) -> Mem<Filter> {
     match sketch {
         Sketch::Compare(by, left, right, fold) => compare(alloc, by, left, right, fold),
-        Sketch::Like(property) => like(alloc, property, &[LikePart::Many]),
+        Sketch::Like(property) => like(alloc, property),
         Sketch::IsNull(property) => Ok(Filter::IsNull(property)),
         Sketch::Between(property, low, high) => between(alloc, property, low, high),
         Sketch::Id(kind, number) => ids(alloc, IdRef::Known(Rid { kind, number })),
-        Sketch::Nobody => ids(alloc, IdRef::Nobody),
         Sketch::InBox(property, low, high) => Ok(Filter::InBox {
             property,
             area: Box2::between(at(low), at(high)),
@@ -141,71 +136,4 @@ fn filter(alloc: Global, sketch: Sketch) -> Mem<Filter> {
 
 fn negated(alloc: Global, part: Filter) -> Mem<Filter> {
     Ok(Filter::Not(Boxed::new(alloc, part)?))
-}
-
-// The square between these corners.
-fn square(alloc: Global, low: i64, high: i64) -> Mem<Option<Ring>> {
-    let mut corners = Vec::new(alloc);
-    corners.push(at((low, low)))?;
-    corners.push(at((high, low)))?;
-    corners.push(at((high, high)))?;
-    corners.push(at((low, high)))?;
-    corners.push(at((low, low)))?;
-    Ok(Ring::new(corners).ok())
-}
-
-// The hole from 2 to 4.
-fn holes(alloc: Global) -> Mem<Vec<Ring>> {
-    let mut holes = Vec::new(alloc);
-    if let Some(hole) = square(alloc, 2, 4)? {
-        holes.push(hole)?;
-    }
-    Ok(holes)
-}
-
-fn over(alloc: Global, shell: Ring, holes: Vec<Ring>) -> Mem<Value> {
-    match Polygon::new(shell, holes) {
-        Ok(area) => Ok(Value::Shape(Geometry::Over(Shared::new(alloc, area)?))),
-        Err(_) => Ok(Value::Null),
-    }
-}
-
-// The square from 0 to 10 with a hole from 2 to 4.
-fn field(alloc: Global) -> Mem<Value> {
-    let holes = holes(alloc)?;
-    match square(alloc, 0, 10)? {
-        Some(shell) => over(alloc, shell, holes),
-        None => Ok(Value::Null),
-    }
-}
-
-// A way along the far edge.
-fn way(alloc: Global) -> Mem<Value> {
-    let mut places = Vec::new(alloc);
-    places.push(at((FAR, 0)))?;
-    places.push(at((FAR, FAR)))?;
-    Ok(match Line::new(places) {
-        Ok(line) => Value::Shape(Geometry::Along(Shared::new(alloc, line)?)),
-        Err(_) => Value::Null,
-    })
-}
-
-fn value(alloc: Global, property: u32, label: &str) -> Mem<Value> {
-    match property {
-        LABEL => Ok(Value::Words(Text::of(alloc, label)?)),
-        SIZE => Ok(Value::Whole(5)),
-        FLAG => Ok(Value::Truth(true)),
-        FIELD => field(alloc),
-        WAY => way(alloc),
-        _ => Ok(Value::Null),
-    }
-}
-
-// Mark 7 of type 1.
-fn mark(alloc: Global, label: &str) -> Mem<Feature> {
-    let mut values = Vec::new(alloc);
-    for property in 0..OTHER {
-        values.push(value(alloc, property, label)?)?;
-    }
-    Feature::of(alloc, Rid { kind: 1, number: 7 }, values)
 }

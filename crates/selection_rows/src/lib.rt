@@ -1,5 +1,4 @@
-//! Rows of what filters choose and types allow, of the model's words, copies and limits, of which features lie near a
-//! box, and of the order of what is sorted.
+//! Rows of what types allow of filters, of the model's copies and limits, and of which features lie near a box.
 #![tactic(auto)]
 
 #[cfg(test)]
@@ -8,5 +7,3 @@ mod filters;
 mod grid;
 #[cfg(test)]
 mod model;
-#[cfg(test)]
-mod orders;

@@ -1,4 +1,4 @@
-//! Rows of shapes, values and schema files: what is said of them, worked out by hand or by exact fractions; and a law of
+//! Rows of shapes and values: what is said of them, worked out by hand or by exact fractions; and a law of
 //! shapes.
 #![tactic(auto)]
 
@@ -14,7 +14,5 @@ mod geometry;
 mod places;
 #[cfg(test)]
 mod relations;
-#[cfg(test)]
-mod schema;
 #[cfg(test)]
 mod values;
