@@ -1,6 +1,7 @@
 """What the benchmarks share: messages, and the least time of a command over some runs."""
 
 import contextlib
+import functools
 import os
 import shutil
 import subprocess
@@ -9,7 +10,10 @@ import tempfile
 import time
 
 ROOT = os.path.dirname(os.path.dirname(os.path.abspath(__file__)))
-PROGRAM = os.path.join(ROOT, "wfsd")
+sys.path.insert(0, os.path.join(ROOT, "tools"))
+
+import program
+
 RUNS = 7
 DEMO = os.path.join(ROOT, "demo")
 # The status of a session that was answered up to its end.
@@ -31,9 +35,10 @@ def message(body: bytes) -> bytes:
     return head.encode() + body
 
 
-def built() -> None:
-    """Builds the program, so that no run measures that."""
-    subprocess.run([PROGRAM, "check", DEMO], stdout=subprocess.DEVNULL, check=True)
+@functools.lru_cache(maxsize=None)
+def built() -> str:
+    """The path of the program that `./wfsd` would run, which is unpacked or built first, so that no run measures that."""
+    return program.path()
 
 
 def time_once(command: list, source, status: int) -> float:
@@ -98,9 +103,6 @@ def driver(name: str, crates: list):
         shutil.rmtree(folder, ignore_errors=True)
 
 
-# The program as it was built.
-BUILT = os.path.join(ROOT, "crates", "wfsd", "out", "wfsd")
-
 # The folders of the sessions, one for each run, since a run leaves a journal.
 FOLDERS = tempfile.TemporaryDirectory()
 FRESH = 'mkdir "$1/$$" && cp "$2/schema.toml" "$1/$$" && exec "$0" talk "$1/$$"'
@@ -108,7 +110,7 @@ FRESH = 'mkdir "$1/$$" && cp "$2/schema.toml" "$1/$$" && exec "$0" talk "$1/$$"'
 
 def session(folder: str = DEMO) -> list:
     """The command that holds a session in a fresh folder, by the schema of this one or of the demonstration."""
-    return ["sh", "-c", FRESH, BUILT, FOLDERS.name, folder]
+    return ["sh", "-c", FRESH, built(), FOLDERS.name, folder]
 
 
 def wfsd_time(body: bytes, status: int) -> float:
@@ -137,7 +139,7 @@ def instructions(body: bytes) -> int:
             # (the shell that makes the folder, and what it calls, are counted beside it)
             with open(os.path.join(folder, name), encoding="ascii") as file:
                 lines = file.readlines()
-            if any(line.split()[:2] == ["cmd:", BUILT] for line in lines):
+            if any(line.split()[:2] == ["cmd:", built()] for line in lines):
                 return next(int(line.split()[1]) for line in lines if line.startswith("totals:"))
     raise AssertionError("the program was not counted")
 
@@ -175,10 +177,10 @@ int main(int count, char **words) {
 def plain_writer(folder: str):
     """A function of the size of a record, in bytes, and of how many there are. It tells how many microseconds a plain program in C takes for each
     of them to write and sync it behind a side in this folder: a copy of the file that is named, or a new one."""
-    source, program, side = (os.path.join(folder, name) for name in ("plain_writer.c", "plain_writer", "plain_side"))
+    source, writer, side = (os.path.join(folder, name) for name in ("plain_writer.c", "plain_writer", "plain_side"))
     with open(source, "w", encoding="ascii") as text:
         text.write(PLAIN_WRITER)
-    subprocess.run(["cc", "-O2", "-o", program, source], check=True)
+    subprocess.run(["cc", "-O2", "-o", writer, source], check=True)
 
     def write(size: int, times: int, like: str = os.devnull) -> float:
         shutil.copyfile(like, side)
@@ -188,7 +190,7 @@ def plain_writer(folder: str):
             gate = file.tell() - 1
             os.fsync(file.fileno())
         words = [str(number) for number in (gate, size, times)]
-        return int(subprocess.run([program, side, *words], stdout=subprocess.PIPE, check=True).stdout) / times
+        return int(subprocess.run([writer, side, *words], stdout=subprocess.PIPE, check=True).stdout) / times
 
     yield write
 
