@@ -11,7 +11,7 @@ use std::io;
 use std::io::{ErrorKind, Read, Write};
 use std::net::{Net, OpenListener, OpenStream, SocketAddr, TcpListener};
 use std::rt::Clock;
-use std::time::Duration;
+use std::time::{Duration, Instant};
 use wfs_ends::Failed;
 
 /// How many connections in a row may be lost before they are handed out.
@@ -96,7 +96,12 @@ impl<'a, R: Net> TcpAcceptor<'a, R> {
     }
 }
 
-impl<'a, R: Net + Clock> Acceptor for TcpAcceptor<'a, R> {
+// Tells the operator why a worker accepts no more connections. Where even that fails, nothing is left to do.
+fn tell_failed<R: Eprint>(runtime: &R, error: &io::Error) {
+    let _ = eprintln!(runtime; "wfsd: a worker ends, since no connection can be accepted: {error}");
+}
+
+impl<'a, R: Net + Clock + Eprint> Acceptor for TcpAcceptor<'a, R> {
     type Link = StreamEnd<'a, R, R::Stream>;
 
     ghost accepting = { λ a. record {
@@ -113,7 +118,8 @@ impl<'a, R: Net + Clock> Acceptor for TcpAcceptor<'a, R> {
                 self.out = self.out.saturating_add(1);
                 Ok(Some(link_over(self.runtime, stream)))
             }
-            Err(_) => {
+            Err(error) => {
+                tell_failed(self.runtime, &error);
                 self.faults = self.faults.saturating_add(1);
                 Err(Failed)
             }
@@ -127,20 +133,23 @@ impl<'a, R: Net + Clock> Acceptor for TcpAcceptor<'a, R> {
     }
 }
 
-/// Listens at an address of TCP. A call that fails raises its count by one, up to the last u64.
+/// Listens at an address of TCP. A call that fails raises its count by one, up to the last u64. Standard error is told where it
+/// listens, or why it does not.
 #[derive(Drop)]
 pub struct TcpDoors<'a, R> {
     runtime: &'a R,
+    // when the program began
+    began: Option<Instant>,
     faults: u64,
 }
 
-// Listens, and puts an acceptor for each worker into a list that has the memory for them.
+// Listens, and puts an acceptor for each worker into a list that has the memory for them. The address has the port that the system chose.
 fn open<'a, R: Net>(
     runtime: &'a R,
     address: &str,
     workers: u32,
     acceptors: &mut Vec<TcpAcceptor<'a, R>>,
-) -> io::Result<()>
+) -> io::Result<SocketAddr>
     requires none { acceptors.old.items ≡ [] }
     requires room { workers ≤ vec_capacity acceptors.old }
     ensures number { OnOk result (length acceptors.new.items ≡ workers) }
@@ -154,20 +163,41 @@ fn open<'a, R: Net>(
             Err(_) => unreachable!(),
         }
     }
-    Ok(())
+    listener.local_addr()
 }
 
-impl<'a, R: Net + Clock> TcpDoors<'a, R> {
+// Tells the operator at which address the doors listen, with the port that the system chose, and how long the start took.
+fn tell_open<R: Eprint + Clock>(runtime: &R, at: &SocketAddr, began: &Option<Instant>) {
+    let took = match began {
+        Some(began) => began.elapsed(runtime).unwrap_or(Duration::ZERO),
+        None => Duration::ZERO,
+    };
+    let (seconds, thousandths) = (took.as_secs(), took.subsec_millis());
+    let _ = eprintln!(runtime;
+        "wfsd: listening at {at}, {seconds}.{thousandths:03} s after the start"
+    );
+}
+
+// Tells the operator why the doors do not listen.
+fn tell_shut<R: Eprint>(runtime: &R, address: &str, error: &io::Error) {
+    let _ = eprintln!(runtime; "wfsd: cannot listen at {address}: {error}");
+}
+
+impl<'a, R: Net + Clock + Eprint> TcpDoors<'a, R> {
     /// The doors of this runtime, which listen nowhere yet.
     pub fn of(runtime: &'a R) -> TcpDoors<'a, R>
         ensures { ⟦<TcpDoors<'a, R> as Doors>⟧.listening result
             ≡ record { asked = None; ready = None; faults = 0 } }
     {
-        TcpDoors { runtime, faults: 0 }
+        TcpDoors {
+            runtime,
+            began: Instant::now(runtime).ok(),
+            faults: 0,
+        }
     }
 }
 
-impl<'a, R: Net + Clock> Doors for TcpDoors<'a, R> {
+impl<'a, R: Net + Clock + Eprint> Doors for TcpDoors<'a, R> {
     type Acceptor = TcpAcceptor<'a, R>;
 
     ghost listening = { λ d. record { asked = None; ready = None; faults = d.faults } };
@@ -180,8 +210,12 @@ impl<'a, R: Net + Clock> Doors for TcpDoors<'a, R> {
     ) -> Result<Vec<TcpAcceptor<'a, R>>, DoorFault> {
         let mut acceptors = Vec::with_capacity(alloc, workers as usize)?;
         match open(self.runtime, address, workers, &mut acceptors) {
-            Ok(()) => Ok(acceptors),
-            Err(_) => {
+            Ok(at) => {
+                tell_open(self.runtime, &at, &self.began);
+                Ok(acceptors)
+            }
+            Err(error) => {
+                tell_shut(self.runtime, address, &error);
                 self.faults = self.faults.saturating_add(1);
                 Err(DoorFault::Failed)
             }
