@@ -6,6 +6,7 @@ mod calls;
 mod doors;
 mod memory_acceptor;
 mod memory_doors;
+mod pace;
 mod stream_end;
 mod tcp;
 

@@ -3,39 +3,46 @@
 ghost use Rattle.std.specs.Prelude.{◌≡◌, ◌≤◌, None, IfOk, length};
 ghost use Rattle.wfs_ends.specs.Ends.{Untold, both, only_source, only_sink};
 
+use crate::pace::Pace;
 use std::io;
 use std::io::{ErrorKind, Read, Write};
+use std::net::OpenStream;
+use std::rt::Clock;
+use std::time::Duration;
 use wfs_ends::{Failed, Link, Sink, Source};
 
 /// A connection as a link. It does not tell its bytes. A failed read raises the count of its source by one, and a
-/// failed write, or one of nothing, that of its sink, up to the last u64 each.
+/// failed write, or one of nothing, that of its sink, up to the last u64 each. A read and a write also fail where the peer takes
+/// longer than it may over a message or an answer.
 #[derive(Drop)]
-pub struct StreamEnd<S> {
+pub struct StreamEnd<'a, R, S> {
+    clock: &'a R,
     stream: Option<S>,
+    pace: Pace,
+    // how long reads and writes of the stream wait
+    read_wait: Duration,
+    write_wait: Duration,
     failed_takes: u64,
     failed_puts: u64,
 }
 
-impl<S: Read + Write + Drop> StreamEnd<S> {
-    /// A link over an open connection.
-    pub fn of(stream: S) -> StreamEnd<S>
-        ensures { ⟦<StreamEnd<S> as Source>⟧.source result
+impl<'a, R: Clock, S: Read + Write + OpenStream + Drop> StreamEnd<'a, R, S> {
+    /// A link over an open connection, whose reads and writes wait as long as these; over none, each read and write of it fails.
+    pub fn of(
+        clock: &'a R,
+        stream: Option<S>,
+        read_wait: Duration,
+        write_wait: Duration,
+    ) -> StreamEnd<'a, R, S>
+        ensures { ⟦<StreamEnd<'a, R, S> as Source>⟧.source result
             ≡ both (only_source None 0) (only_sink Untold 0) }
     {
         StreamEnd {
-            stream: Some(stream),
-            failed_takes: 0,
-            failed_puts: 0,
-        }
-    }
-
-    /// A link whose connection is lost: each read and write of it fails.
-    pub fn lost() -> StreamEnd<S>
-        ensures { ⟦<StreamEnd<S> as Source>⟧.source result
-            ≡ both (only_source None 0) (only_sink Untold 0) }
-    {
-        StreamEnd {
-            stream: None,
+            clock,
+            stream,
+            pace: Pace::new(),
+            read_wait,
+            write_wait,
             failed_takes: 0,
             failed_puts: 0,
         }
@@ -46,10 +53,17 @@ impl<S: Read + Write + Drop> StreamEnd<S> {
         ensures takes { self.new.failed_takes ≡ self.old.failed_takes }
         ensures puts { self.new.failed_puts ≡ self.old.failed_puts }
     {
-        match &mut self.stream {
-            Some(stream) => stream.read(into),
-            None => Err(io::Error::from(ErrorKind::NotConnected)),
+        let wait = self.pace.before_read(self.clock)?;
+        let Some(stream) = &mut self.stream else {
+            return Err(io::Error::from(ErrorKind::NotConnected));
+        };
+        if wait != self.read_wait {
+            stream.set_read_timeout(Some(wait))?;
+            self.read_wait = wait;
         }
+        let read = stream.read(into)?;
+        self.pace.after_read(self.clock, read)?;
+        Ok(read)
     }
 
     fn write(&mut self, piece: &[u8]) -> io::Result<usize>
@@ -57,14 +71,21 @@ impl<S: Read + Write + Drop> StreamEnd<S> {
         ensures takes { self.new.failed_takes ≡ self.old.failed_takes }
         ensures puts { self.new.failed_puts ≡ self.old.failed_puts }
     {
-        match &mut self.stream {
-            Some(stream) => stream.write(piece),
-            None => Err(io::Error::from(ErrorKind::NotConnected)),
+        let wait = self.pace.before_write(self.clock)?;
+        let Some(stream) = &mut self.stream else {
+            return Err(io::Error::from(ErrorKind::NotConnected));
+        };
+        if wait != self.write_wait {
+            stream.set_write_timeout(Some(wait))?;
+            self.write_wait = wait;
         }
+        let written = stream.write(piece)?;
+        self.pace.after_write(written);
+        Ok(written)
     }
 }
 
-impl<S: Read + Write + Drop> Source for StreamEnd<S> {
+impl<'a, R: Clock, S: Read + Write + OpenStream + Drop> Source for StreamEnd<'a, R, S> {
     ghost source = { λ s. both (only_source None s.failed_takes) (only_sink Untold s.failed_puts) };
 
     fn take(&mut self, into: &mut [u8]) -> Result<usize, Failed> {
@@ -78,7 +99,7 @@ impl<S: Read + Write + Drop> Source for StreamEnd<S> {
     }
 }
 
-impl<S: Read + Write + Drop> Sink for StreamEnd<S> {
+impl<'a, R: Clock, S: Read + Write + OpenStream + Drop> Sink for StreamEnd<'a, R, S> {
     ghost sink = { λ s. both (only_source None s.failed_takes) (only_sink Untold s.failed_puts) };
 
     fn put(&mut self, piece: &[u8]) -> Result<usize, Failed> {
@@ -92,7 +113,7 @@ impl<S: Read + Write + Drop> Sink for StreamEnd<S> {
     }
 }
 
-impl<S: Read + Write + Drop> Link for StreamEnd<S> {
+impl<'a, R: Clock, S: Read + Write + OpenStream + Drop> Link for StreamEnd<'a, R, S> {
     ghost use Rattle.std.specs.Prelude.{refl};
 
     ghost is_one = { λ s. refl };

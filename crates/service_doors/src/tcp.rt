@@ -4,26 +4,23 @@ ghost use Rattle.std.specs.Prelude.{◌≡◌, ◌+◌, ◌≤◌, ◌<◌, [], 
 ghost use Rattle.std.specs.List.{All};
 ghost use Rattle.service_doors.specs.Accepting.{untold, IsNew};
 
+use crate::pace::{FIRST_SECONDS, IDLE_SECONDS};
 use crate::{Acceptor, DoorFault, Doors, StreamEnd};
 use std::alloc::Global;
 use std::io;
 use std::io::{ErrorKind, Read, Write};
 use std::net::{Net, OpenListener, OpenStream, SocketAddr, TcpListener};
-use std::time::Duration;
+use std::rt::Clock;
+use std::time::{Duration, Instant};
 use wfs_ends::Failed;
-
-/// How many seconds a session waits for the next bytes of its peer. Then its read fails, and it ends.
-const READ_SECONDS: u64 = 300;
-
-/// How many seconds a write waits for its peer to take some bytes. Then it fails, and the session ends.
-const WRITE_SECONDS: u64 = 60;
 
 /// How many connections in a row may be lost before they are handed out.
 const MOST_LOST: u32 = 1_000_000;
 
 /// Hands out the connections that a listener accepts. Other acceptors may share the listener. It does not tell its links.
 #[derive(Drop)]
-pub struct TcpAcceptor<R: Net> {
+pub struct TcpAcceptor<'a, R: Net> {
+    runtime: &'a R,
     listener: R::Listener,
     out: u64,
     finished: u64,
@@ -56,26 +53,36 @@ fn next_connection<L: OpenListener>(listener: &L) -> io::Result<L::Stream> {
     Err(io::Error::from(ErrorKind::ConnectionAborted))
 }
 
-// Sends what is written at once, and bounds how long a read and a write wait.
+// Sends what is written at once, and bounds how long the first read and the first write wait.
 pub(crate) fn set_up<S: OpenStream>(stream: &S) -> io::Result<()> {
     stream.set_nodelay(true)?;
-    stream.set_read_timeout(Some(Duration::from_secs(READ_SECONDS)))?;
-    stream.set_write_timeout(Some(Duration::from_secs(WRITE_SECONDS)))
+    stream.set_read_timeout(Some(Duration::from_secs(IDLE_SECONDS)))?;
+    stream.set_write_timeout(Some(Duration::from_secs(FIRST_SECONDS)))
 }
 
 // The link over a connection. One that cannot be set up is lost, so its session ends by itself, and no other.
-fn link_over<S: Read + Write + OpenStream + Drop>(stream: S) -> StreamEnd<S> {
-    match set_up(&stream) {
-        Ok(()) => StreamEnd::of(stream),
-        Err(_) => StreamEnd::lost(),
-    }
+fn link_over<R: Clock, S: Read + Write + OpenStream + Drop>(
+    runtime: &R,
+    stream: S,
+) -> StreamEnd<'_, R, S> {
+    let open = match set_up(&stream) {
+        Ok(()) => Some(stream),
+        Err(_) => None,
+    };
+    StreamEnd::of(
+        runtime,
+        open,
+        Duration::from_secs(IDLE_SECONDS),
+        Duration::from_secs(FIRST_SECONDS),
+    )
 }
 
-impl<R: Net> TcpAcceptor<R> {
-    fn of(listener: R::Listener) -> TcpAcceptor<R>
+impl<'a, R: Net> TcpAcceptor<'a, R> {
+    fn of(runtime: &'a R, listener: R::Listener) -> TcpAcceptor<'a, R>
         ensures { IsNew (untold result.out result.finished result.faults) }
     {
         TcpAcceptor {
+            runtime,
             listener,
             out: 0,
             finished: 0,
@@ -89,8 +96,13 @@ impl<R: Net> TcpAcceptor<R> {
     }
 }
 
-impl<R: Net> Acceptor for TcpAcceptor<R> {
-    type Link = StreamEnd<R::Stream>;
+// Tells the operator why a worker accepts no more connections. Where even that fails, nothing is left to do.
+fn tell_failed<R: Eprint>(runtime: &R, error: &io::Error) {
+    let _ = eprintln!(runtime; "wfsd: a worker ends, since no connection can be accepted: {error}");
+}
+
+impl<'a, R: Net + Clock + Eprint> Acceptor for TcpAcceptor<'a, R> {
+    type Link = StreamEnd<'a, R, R::Stream>;
 
     ghost accepting = { λ a. record {
       left = None;
@@ -100,13 +112,14 @@ impl<R: Net> Acceptor for TcpAcceptor<R> {
       faults = a.faults;
     } };
 
-    fn accept(&mut self) -> Result<Option<StreamEnd<R::Stream>>, Failed> {
+    fn accept(&mut self) -> Result<Option<StreamEnd<'a, R, R::Stream>>, Failed> {
         match next_connection(&self.listener) {
             Ok(stream) => {
                 self.out = self.out.saturating_add(1);
-                Ok(Some(link_over(stream)))
+                Ok(Some(link_over(self.runtime, stream)))
             }
-            Err(_) => {
+            Err(error) => {
+                tell_failed(self.runtime, &error);
                 self.faults = self.faults.saturating_add(1);
                 Err(Failed)
             }
@@ -114,26 +127,29 @@ impl<R: Net> Acceptor for TcpAcceptor<R> {
     }
 
     // The link is dropped, which closes its connection.
-    fn finish(&mut self, _link: StreamEnd<R::Stream>) {
+    fn finish(&mut self, _link: StreamEnd<'a, R, R::Stream>) {
         self.out -= 1;
         self.finished = self.finished.saturating_add(1);
     }
 }
 
-/// Listens at an address of TCP. A call that fails raises its count by one, up to the last u64.
+/// Listens at an address of TCP. A call that fails raises its count by one, up to the last u64. Standard error is told where it
+/// listens, or why it does not.
 #[derive(Drop)]
 pub struct TcpDoors<'a, R> {
     runtime: &'a R,
+    // when the program began
+    began: Option<Instant>,
     faults: u64,
 }
 
-// Listens, and puts an acceptor for each worker into a list that has the memory for them.
-fn open<R: Net>(
-    runtime: &R,
+// Listens, and puts an acceptor for each worker into a list that has the memory for them. The address has the port that the system chose.
+fn open<'a, R: Net>(
+    runtime: &'a R,
     address: &str,
     workers: u32,
-    acceptors: &mut Vec<TcpAcceptor<R>>,
-) -> io::Result<()>
+    acceptors: &mut Vec<TcpAcceptor<'a, R>>,
+) -> io::Result<SocketAddr>
     requires none { acceptors.old.items ≡ [] }
     requires room { workers ≤ vec_capacity acceptors.old }
     ensures number { OnOk result (length acceptors.new.items ≡ workers) }
@@ -142,26 +158,47 @@ fn open<R: Net>(
 {
     let listener = TcpListener::bind(runtime, address)?;
     for _worker in 0..workers {
-        match acceptors.push(TcpAcceptor::of(listener.try_clone()?)) {
+        match acceptors.push(TcpAcceptor::of(runtime, listener.try_clone()?)) {
             Ok(()) => {}
             Err(_) => unreachable!(),
         }
     }
-    Ok(())
+    listener.local_addr()
 }
 
-impl<'a, R: Net> TcpDoors<'a, R> {
+// Tells the operator at which address the doors listen, with the port that the system chose, and how long the start took.
+fn tell_open<R: Eprint + Clock>(runtime: &R, at: &SocketAddr, began: &Option<Instant>) {
+    let took = match began {
+        Some(began) => began.elapsed(runtime).unwrap_or(Duration::ZERO),
+        None => Duration::ZERO,
+    };
+    let (seconds, thousandths) = (took.as_secs(), took.subsec_millis());
+    let _ = eprintln!(runtime;
+        "wfsd: listening at {at}, {seconds}.{thousandths:03} s after the start"
+    );
+}
+
+// Tells the operator why the doors do not listen.
+fn tell_shut<R: Eprint>(runtime: &R, address: &str, error: &io::Error) {
+    let _ = eprintln!(runtime; "wfsd: cannot listen at {address}: {error}");
+}
+
+impl<'a, R: Net + Clock + Eprint> TcpDoors<'a, R> {
     /// The doors of this runtime, which listen nowhere yet.
     pub fn of(runtime: &'a R) -> TcpDoors<'a, R>
         ensures { ⟦<TcpDoors<'a, R> as Doors>⟧.listening result
             ≡ record { asked = None; ready = None; faults = 0 } }
     {
-        TcpDoors { runtime, faults: 0 }
+        TcpDoors {
+            runtime,
+            began: Instant::now(runtime).ok(),
+            faults: 0,
+        }
     }
 }
 
-impl<'a, R: Net> Doors for TcpDoors<'a, R> {
-    type Acceptor = TcpAcceptor<R>;
+impl<'a, R: Net + Clock + Eprint> Doors for TcpDoors<'a, R> {
+    type Acceptor = TcpAcceptor<'a, R>;
 
     ghost listening = { λ d. record { asked = None; ready = None; faults = d.faults } };
 
@@ -170,11 +207,15 @@ impl<'a, R: Net> Doors for TcpDoors<'a, R> {
         alloc: Global,
         address: &str,
         workers: u32,
-    ) -> Result<Vec<TcpAcceptor<R>>, DoorFault> {
+    ) -> Result<Vec<TcpAcceptor<'a, R>>, DoorFault> {
         let mut acceptors = Vec::with_capacity(alloc, workers as usize)?;
         match open(self.runtime, address, workers, &mut acceptors) {
-            Ok(()) => Ok(acceptors),
-            Err(_) => {
+            Ok(at) => {
+                tell_open(self.runtime, &at, &self.began);
+                Ok(acceptors)
+            }
+            Err(error) => {
+                tell_shut(self.runtime, address, &error);
                 self.faults = self.faults.saturating_add(1);
                 Err(DoorFault::Failed)
             }

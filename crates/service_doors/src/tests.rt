@@ -127,7 +127,7 @@ fn doors_over_tcp_give_two_workers_one_port(rt: HostRuntime) -> Result<(), Fail>
         let at = acceptor.local_addr()?;
         assert_eq!(rt; ask(&rt, at, acceptor)?.as_str(), "ask");
     }
-    let (read, write) = (Duration::from_secs(300), Duration::from_secs(60));
+    let (read, write) = (Duration::from_secs(300), Duration::from_secs(30));
     let at = acceptors[0].local_addr()?;
     assert_eq!(rt; limits(&rt, at)?, (Some(read), Some(write), true));
     moves(acceptors);

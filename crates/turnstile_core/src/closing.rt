@@ -40,7 +40,7 @@ impl<T: Kept> Turnstile<T> {
             front: _,
         } = last;
         self.take_in_all(&mut token, others);
-        let Turnstile { table } = self;
+        let Turnstile { table, gate: _ } = self;
         let mut closed = table.close_with(token);
         let full = closed.take(0);
         closed.free();

@@ -2,6 +2,7 @@
 #![tactic(auto)]
 
 mod closing;
+mod gate;
 mod kept;
 mod plays;
 mod seat;

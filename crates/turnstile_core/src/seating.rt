@@ -3,6 +3,7 @@ ghost use Rattle.std.specs.Prelude.{◌≡◌, ℕ, ◌<◌, ◌≤◌, [], ◌�
 ghost use Rattle.turnstile_core.specs.Seats.{name_of, turnstile_of, past, stage, IsFree};
 ghost use Rattle.turnstile_core.specs.Steps.{fresh_past, saw, gave_one, newcomer};
 
+use crate::gate::Gate;
 use crate::kept::Kept;
 use crate::seat::{Returned, Seat};
 use crate::turnstile::Turnstile;
@@ -32,7 +33,10 @@ impl<T: Kept> Turnstile<T> {
             return Err(Returned(value));
         }
         match Table::new(alloc, &words, slots, &about) {
-            Ok((table, token)) => Ok((Turnstile { table }, Seat { token, front: 0 })),
+            Ok((table, token)) => {
+                let gate = Gate::new();
+                Ok((Turnstile { table, gate }, Seat { token, front: 0 }))
+            }
             Err(Refused { mut slots }) => {
                 let last = slots.pop().unwrap();
                 slots.destroy_empty();

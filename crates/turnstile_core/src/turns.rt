@@ -30,7 +30,7 @@ impl<T: Kept> Turnstile<T> {
         unreachable!()
     }
 
-    /// Waits until it is the seat's turn, and gives the turn.
+    /// Waits until it is the seat's turn, and gives the turn. Who asked first need not be first.
     ///
     /// The seat has then seen all entries of the value, and knows how many of them are shown.
     pub fn take_turn<R: Wait>(&self, rt: &R, seat: &mut Seat<T>) -> Turn<T>
@@ -42,6 +42,7 @@ impl<T: Kept> Turnstile<T> {
         ensures settled { T.settled result.value }
         ensures seat { past seat.new ≡ caught_up T.Kept (past seat.old) result.value }
     {
+        self.gate.pass(rt);
         let value = self.wait_for(rt, &mut seat.token);
         seat.front = value.entries();
         Turn { value }
@@ -76,7 +77,7 @@ impl<T: Kept> Turnstile<T> {
         self.raise_shown(&mut seat.token, shown);
     }
 
-    /// Hands the value to the seat that waits next, or leaves it for the one that comes.
+    /// Puts the value back for the next seat, the one with the next ticket or whoever comes first.
     pub fn pass_on(&self, seat: &mut Seat<T>, turn: Turn<T>)
         requires own { turnstile_of seat.old ≡ name_of self.now }
         requires holds { FoundTallies seat.old turn.value }
@@ -93,5 +94,6 @@ impl<T: Kept> Turnstile<T> {
         self.put_back(&mut seat.token, value);
         self.serve_next(&mut seat.token);
         self.table.shared.wake_all(1);
+        self.gate.leave();
     }
 }

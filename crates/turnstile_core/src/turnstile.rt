@@ -1,6 +1,7 @@
 //! The turnstile: a value, and the words that threads take their turns by.
 ghost use Rattle.std.specs.Prelude.{◌≡◌};
 
+use crate::gate::Gate;
 use crate::kept::Kept;
 use crate::view::{InTurns, View};
 use atomic_table::Table;
@@ -13,5 +14,6 @@ use std::snapshot::Snapshot;
 /// them are shown. The one slot has the value while nobody holds the turn.
 pub struct Turnstile<T: Kept> {
     pub(crate) table: Table<Option<T>, View<T, T::Entry>, Snapshot<T>, InTurns<T>, Global>,
+    pub(crate) gate: Gate,
     ghost sized: { (table.shared.table_id.words ≡ 4) × (table.shared.table_id.slots ≡ 1) },
 }

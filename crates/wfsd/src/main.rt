@@ -24,7 +24,23 @@ use wfs_words::directory;
 use wfsd_commands::OUT_OF_MEMORY;
 use wfsd_program::wfsd;
 
-/// Makes the real ends, and leaves the rest to `wfsd`. Where memory runs out before that, one line says so.
+/// The status where the words are refused.
+const BAD_WORDS: u8 = 2;
+
+/// What standard error is told then.
+const USAGE: &str = "usage: wfsd COMMAND FOLDER
+
+  serve --listen ADDRESS:PORT --workers N [--connections N] FOLDER    serves connections, N at a time (1 to 16)
+  talk FOLDER        serves one connection, over the standard input and output
+  check FOLDER       counts what the folder holds, and changes nothing
+  compact FOLDER     makes the folder's journal shorter
+  drill N FOLDER     carries out a list of N rounds of requests, to try a folder
+
+FOLDER has a schema.toml; journal.a and journal.b are made in it.
+Proved with rattle-kit-13f logic dac8208d650f15bf.";
+
+/// Makes the real ends, and leaves the rest to `wfsd`. Where memory runs out before that, one line says so. Where the words are
+/// refused, standard error is told the right ones.
 fn main(rt: HostRuntime) -> ExitCode {
     let alloc = rt.alloc();
     let mut out = WriteEnd::of(StandardOutput::of(&rt));
@@ -43,7 +59,7 @@ fn main(rt: HostRuntime) -> ExitCode {
         a: FileDisk::of(&rt, side_a),
         b: FileDisk::of(&rt, side_b),
     };
-    ExitCode::from(status_of(
+    let status = status_of(
         &rt,
         alloc,
         &words,
@@ -53,7 +69,11 @@ fn main(rt: HostRuntime) -> ExitCode {
         disks,
         &mut TcpDoors::of(&rt),
         &mut RealClock::of(&rt),
-    ))
+    );
+    if status == BAD_WORDS {
+        let _ = eprintln!(rt; "{USAGE}");
+    }
+    ExitCode::from(status)
 }
 
 // Says that memory ran out, and answers the status. A fault of the output changes nothing.
