@@ -124,7 +124,15 @@ def run_clients(server) -> list:
     return clients
 
 
-def test_sixteen_connections_have_one_history():
+def is_enough(order: list, clients: list) -> bool:
+    """Whether the clients were in each other's way: some changes, some locks, and one that was refused."""
+    changes = sum(it.kind == "changed" for it in order)
+    locks = sum(it.kind == "granted" for it in order)
+    return changes > 10 and locks > 5 and any(it.kind == "refused" for it in done_by(clients))
+
+
+def one_run() -> bool:
+    """Has the clients work on a new folder, judges what they were told, and returns whether they were in each other's way."""
     with Folder() as folder:
         with folder.serve(workers=CLIENTS) as server:
             server.ask(insert(mark("first", "<m:size>0</m:size>")))
@@ -134,13 +142,19 @@ def test_sixteen_connections_have_one_history():
             locks = sum(it.kind == "granted" for it in order)
             again, found = server.ask(lock("resourceId=Mark.1"), find("typeNames=Mark"))
             same('lockId="lock-1-%d"' % (locks + 1) in again.body, True, "all locks were released")
-        same(len(changes) > 10 and locks > 5 and any(it.kind == "refused" for it in done_by(clients)), True, "enough was done")
         # The last change stands, and of what was refused there is no trace: also in the next run.
         for answered in (found, folder.ask(find("typeNames=Mark"))[0]):
             marks = answered.body.split("<wfs:member>")[1:]
             same(answered.ids, ["Mark.%d" % (it + 1) for it in range(len(changes) + 1)])
-            same("<m:size>%d</m:size>" % changes[-1].value in marks[0], True, "the last value")
+            if changes:
+                same("<m:size>%d</m:size>" % changes[-1].value in marks[0], True, "the last value")
             same([it.split("<m:label>")[1].split("<")[0] for it in marks[1:]], ["v%d" % it.value for it in changes])
+    return is_enough(order, clients)
+
+
+def test_sixteen_connections_have_one_history():
+    # (on a busy machine they may come one after the other: then they try again)
+    same(any(one_run() for _ in range(10)), True, "the clients were in each other's way")
 
 
 def told(**changed) -> list:
