@@ -2,6 +2,7 @@
 closed."""
 
 import contextlib
+import select
 import socket
 
 from harness import DONE, LONGEST, Connection, Folder, TWO_MARKS, rows, same
@@ -10,13 +11,13 @@ from messages import NEXT, SIZES, STREAMS, asked, chunked, stated, waiting, word
 PIECES = (("of 1 byte", 1), ("of 997 bytes", 997), ("that are whole", 1 << 30))
 
 
-def send_in_pieces(connection: Connection, stream: bytes, size: int) -> None:
-    """Sends a stream in pieces, up to where the other side closes the connection."""
-    try:
+def send_in_pieces(connection: Connection, stream: bytes, size: int, is_end: bool) -> None:
+    """Sends a stream in pieces, up to where the other side closes the connection; and that no more comes, where this is the end."""
+    with contextlib.suppress(OSError):
         for at in range(0, len(stream), size):
             connection.send(stream[at : at + size])
-    except (BrokenPipeError, ConnectionResetError):
-        pass
+        if is_end:
+            connection.socket.shutdown(socket.SHUT_WR)
 
 
 def is_ended(connection: Connection) -> bool:
@@ -29,25 +30,20 @@ def is_ended(connection: Connection) -> bool:
 
 def is_open(connection: Connection) -> bool:
     """Whether the other side has neither sent more nor closed by now."""
-    connection.socket.setblocking(False)
-    try:
-        connection.socket.recv(1, socket.MSG_PEEK)
-    except BlockingIOError:
-        return connection.rest == b""
-    finally:
-        connection.socket.settimeout(LONGEST)
-    return False
+    return connection.rest == b"" and not select.select([connection.socket], [], [], 0)[0]
 
 
 def is_answered(server, stream: bytes, size: int, seen: str, what: str) -> None:
-    """That a connection with this stream, which then ends, is answered as it is over the standard input."""
+    """That a connection with this stream is answered as it is over the standard input, and closed by the side that should. A bad head that is not
+    whole may be answered only once no more comes."""
     wanted = [word for word in seen.split() if word != "cut"]
     with server.connect() as connection:
-        send_in_pieces(connection, stream, size)
-        with contextlib.suppress(OSError):
-            # (the other side may have closed already)
-            connection.socket.shutdown(socket.SHUT_WR)
+        connection.socket.settimeout(20)
+        send_in_pieces(connection, stream, size, seen == "head!" and b"\n\r\n" not in stream)
         same([word_of(connection.receive()) for _ in wanted], wanted, what)
+        if not seen.endswith("!"):
+            same(is_open(connection), True, "open, " + what)
+            connection.socket.shutdown(socket.SHUT_WR)
         same(is_ended(connection), True, "ended, " + what)
 
 
@@ -92,18 +88,16 @@ def test_a_sender_that_waits_is_asked_before_its_body():
         same(word_of(connection.ask(b"x")), "path")
 
 
-def test_a_refused_connection_does_not_hold_up_others():
+def test_a_refused_connection_leaves_its_worker_to_others():
     with Folder() as folder, folder.serve(workers=1) as server:
         with server.connect() as connection:
             same(word_of(connection.ask(stated("x").encode())), "head!")
         same(server.ask(TWO_MARKS)[0].status, 200)
-        with server.connect() as connection:
-            same(word_of(connection.ask(NEXT.encode())), "path")
-    same(folder_runs_end(), DONE)
 
 
-def folder_runs_end() -> int:
-    """The status of a server whose one worker ends with its one connection."""
-    with Folder() as folder, folder.serve("--connections", "1", workers=1) as server:
+def test_a_server_ends_with_the_last_of_its_connections():
+    with Folder() as folder, folder.serve("--connections", "2", workers=1) as server:
         server.ask(NEXT.encode())
-        return server.process.wait(timeout=60)
+        same(server.process.poll(), None, "after the first")
+        server.ask(NEXT.encode())
+        same(server.process.wait(LONGEST), DONE)

@@ -8,31 +8,22 @@ import calendar
 import re
 import time
 
+from bodies import refused
 from harness import CUT, DONE, UNFRAMED, Answer, Folder, Run, get, hits, insert, mark, rows, same
 
-# The refusals that end a session, and those that do not (docs/FORMATS.md, Replies).
-ENDING = {
-    "head": (400, "OperationParsingFailed", "head", "bad message head"),
-    "size": (413, "NoApplicableCode", "size", "message too large"),
-    "Content-Length": (411, "NoApplicableCode", "Content-Length", "length required"),
-    "coding": (501, "OptionNotSupported", "coding", "coded body"),
-}
-OTHERS = {
-    "path": (404, "NoApplicableCode", "path", "unknown path"),
-    "method": (501, "OperationNotSupported", "method", "unknown method"),
-    "document": (400, "OperationParsingFailed", "document", "bad document"),
-}
+# The refusals that end a session, and those that do not, by their locators.
+ENDING = {"head": "bad message head", "size": "message too large", "Content-Length": "length required", "coding": "coded body"}
+OTHERS = {"path": "unknown path", "method": "unknown method"}
 
 
 def word_of(answer: Answer) -> str:
-    """An answer in a word. One that is no refusal is told by its status."""
+    """An answer in a word."""
     if answer.line == "HTTP/1.1 100 Continue":
         same(answer.fields, {}, "fields of the line")
         return "continue"
-    refusal, closes = answer.refusal, answer.fields.get("Connection")
-    name = refusal[2] or str(answer.status)
-    if name in ENDING or name in OTHERS:
-        same(refusal, ENDING.get(name) or OTHERS[name])
+    closes = answer.fields.get("Connection")
+    name = answer.refusal[2]
+    same(answer.refusal, refused({**ENDING, **OTHERS}[name], name))
     if closes not in (None, "close") or name in ENDING and not closes:
         raise AssertionError("Connection: %r in %r" % (closes, answer))
     return name + ("!" if closes else "")

@@ -2,39 +2,8 @@
 
 from bodies import locked, refused, says
 from harness import DONE, JOURNAL_REFUSED, MARKS, SCHEMA_REFUSED, TOO_LONG, Folder, TWO_MARKS, get, hits, insert, mark, rows, same
+from journals import LAST_OF_ALL, base, number, opening, put, put_mark, side
 from worked import BY_LABEL, find, lock
-
-SIGNATURE = b"Mark(label:text,size:integer,place:point);Field(name:text,area:polygon);Way(course:line);"
-
-
-def number(value: int, length: int = 4) -> bytes:
-    """A number as the journal has it: its bytes, the greatest first."""
-    return value.to_bytes(length, "big")
-
-
-def side(*bodies: bytes, generation: int = 1) -> bytes:
-    """A side with these records, all of which count, and a closed gate."""
-    records = b"".join(b"\1" + number(len(it)) + it for it in bodies)
-    return b"\1WFSJNL\1" + number(generation, 8) + records + b"\0"
-
-
-def opening(which: int) -> bytes:
-    return b"\1" + number(which, 8) + number(len(SIGNATURE)) + SIGNATURE
-
-
-def base(which: int, *counters: int) -> bytes:
-    """What a checkpoint begins with: the last opening, and the numbers given of each type."""
-    return b"\5" + number(which, 8) + number(len(counters), 2) + b"".join(number(it, 8) for it in counters)
-
-
-def put_mark(rid: int, label: bytes) -> bytes:
-    """The part that puts a mark with a label and nothing else."""
-    return b"\1" + number(0, 2) + number(rid, 8) + number(3, 2) + b"\1" + number(len(label)) + label + b"\0\0"
-
-
-def put(*parts: bytes) -> bytes:
-    return b"\2" + number(len(parts)) + b"".join(parts)
-
 
 def line_of(folder, *words: str) -> tuple:
     """The line and the status of a run."""
@@ -137,7 +106,6 @@ property = [ {name="label", kind="text"} ]
 """
 
 FOREIGN = b"\1XFSJNL\1" + number(1, 8) + b"\0"
-LAST_OF_ALL = 1_000_000_000_000
 
 
 @rows(

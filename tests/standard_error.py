@@ -1,6 +1,7 @@
 """What standard error tells the operator, beside the lines of the standard output."""
 
 import re
+import select
 import socket
 import subprocess
 
@@ -19,6 +20,7 @@ def test_refused_words_are_followed_by_the_right_ones():
 
 def test_a_server_tells_where_it_listens():
     with Folder() as folder, folder.serve() as server:
+        same(select.select([server.process.stderr], [], [], 10)[0] != [], True, "a line came")
         line = server.process.stderr.readline().decode()
         same(re.fullmatch(r"wfsd: listening at 127\.0\.0\.1:%d, \d+\.\d{3} s after the start\n" % server.port, line) is not None, True, line)
 
