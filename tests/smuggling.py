@@ -5,7 +5,6 @@ and between two changes. Seen are the answers byte by byte, how the session ends
 import contextlib
 import resource
 import signal
-import socket
 import subprocess
 
 from bodies import answer, at_one_moment, refusal, says, transacted
@@ -139,11 +138,8 @@ def test_alone(stream, wanted, status, marks):
 
 def received(connection, stream: bytes) -> bytes:
     """All that comes on a connection on which a stream is sent, up to its end. A side that closes with bytes unread resets it."""
-    send_in_pieces(connection, stream, 1 << 30)
+    send_in_pieces(connection, stream, 1 << 30, True)
     output = b""
-    with contextlib.suppress(OSError):
-        # (the other side may have closed already)
-        connection.socket.shutdown(socket.SHUT_WR)
     with contextlib.suppress(ConnectionResetError):
         while piece := connection.socket.recv(65536):
             output += piece
